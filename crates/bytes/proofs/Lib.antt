@@ -1,0 +1,2 @@
+pub mod Bigs
+pub mod Pieces
