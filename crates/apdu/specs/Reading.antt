@@ -4,7 +4,6 @@ use Prim.Native.Nat.{ℕ, _+_}
 use lib.ListN.{take, drop}
 use denote.Ref.{now}
 use Rattle.std.specs.declared.option.Option.{Option}
-use Rattle.std.specs.declared.option.Option.the-variants.{Some, None}
 use Rattle.std.specs.declared.result.Result.{Result}
 use Rattle.std.specs.declared.result.Result.the-variants.{Ok, Err}
 use Rattle.bytes.specs.Parts.{part}
@@ -13,12 +12,12 @@ use Rattle.apdu.specs.declared.commands.Request.{Request}
 use Rattle.apdu.specs.declared.commands.Command.{Command}
 use Rattle.apdu.specs.declared.commands.Command.the-variants as command
 use Rattle.status.specs.declared.errors.CallError.{CallError}
-use Rattle.status.specs.declared.errors.CallError.the-variants.{Unreadable}
 use Rattle.apdu.specs.declared.faults.Fault.{Fault}
 use Rattle.apdu.specs.declared.faults.Fault.the-variants.{NoHeader}
 use Rattle.apdu.specs.declared.kinds.Kind.{Kind}
 use Rattle.apdu.specs.declared.kinds.Kind.the-variants as kind
 use Rattle.apdu.specs.declared.layout.Form.{Form}
+use Rattle.apdu.specs.Faults.{refusal-of}
 use Rattle.apdu.specs.Forms.{formed}
 use Rattle.apdu.specs.Kinds.{kind-of}
 
@@ -50,19 +49,13 @@ parsed (c ∷ i ∷ []) = Err NoHeader
 parsed (c ∷ i ∷ p ∷ []) = Err NoHeader
 parsed (c ∷ i ∷ p ∷ q ∷ rest) = at-form (header c i p q) rest (formed rest)
 
--- every fault is one refusal
+-- what reading bytes gives: a fault is its refusal
 abbrev pub refused : Result Reading Fault → Result Reading CallError
 refused (Ok x) = Ok x
-refused (Err f) = Err Unreadable
+refused (Err f) = Err (refusal-of f)
 
--- what reading bytes gives
 abbrev pub reading : List ℕ → Result Reading CallError
 reading bs = refused (parsed bs)
-
--- the fault alone
-abbrev pub fault-result : Result Reading Fault → Option Fault
-fault-result (Ok x) = None
-fault-result (Err f) = Some f
 
 -- what a request says as a command of kind k
 abbrev pub read-as : Kind → Request → Reading
@@ -86,6 +79,10 @@ command-read (command.Directive r) = read-as kind.Directive r
 command-read (command.Other r) = read-as kind.Other r
 
 -- the same of the results of the code's calls
+abbrev pub parse-result : Result Command Fault → Result Reading Fault
+parse-result (Ok c) = Ok (command-read c)
+parse-result (Err f) = Err f
+
 abbrev pub read-result : Result Command CallError → Result Reading CallError
 read-result (Ok c) = Ok (command-read c)
 read-result (Err e) = Err e

@@ -1,7 +1,8 @@
 // Why bytes are no command.
 ghost use mathlib.Core.Path.{_≡_};
 ghost use Rattle.std.specs.declared.option.Option.the-variants.{Some};
-ghost use Rattle.apdu.specs.Faults.{fault-name};
+ghost use Rattle.apdu.specs.Faults.{refusal-of, fault-name};
+use status::CallError;
 use std::fmt;
 
 #[derive(Clone, Copy, PartialEq, Eq, Debug)]
@@ -15,6 +16,13 @@ pub enum Fault {
 }
 
 impl Fault {
+    // The refusal of a call that cannot read its bytes.
+    pub fn refusal(self) -> CallError
+        ensures { λ r. ⌜ r ≡ refusal-of self ⌝ }
+    {
+        CallError::Unreadable
+    }
+
     // What is wrong with the bytes.
     fn name(self) -> &'static str
         ensures { λ r. ⌜ now r ≡ fault-name self ⌝ }

@@ -22,7 +22,7 @@ pub(crate) struct Form {
 }
 
 // Reads the header, and the rest by its form.
-pub(crate) fn parse(bytes: &[u8]) -> Result<Request<'_>, Fault>
+pub(crate) fn request_of(bytes: &[u8]) -> Result<Request<'_>, Fault>
     ensures { λ r. ⌜ request-result r ≡ parsed (now (bytes .entry)) ⌝ }
 {
     let [class, instruction, p1, p2, rest @ ..] = bytes else {

@@ -1,6 +1,6 @@
 // Commands as they come from a terminal; with them, the words and numbers that answer one.
 ghost use mathlib.Core.Path.{_≡_};
-ghost use Rattle.apdu.specs.Reading.{read-result, reading, fault-result, parsed};
+ghost use Rattle.apdu.specs.Reading.{parse-result, parsed, read-result, reading};
 
 pub mod commands;
 mod extended;
@@ -21,22 +21,23 @@ pub use status::CallErrorDisplay;
 pub use status::StatusWord;
 pub use status::StatusWordDisplay;
 
-// Reads a command. Its body is a part of `bytes`, from the place that it tells on.
-pub fn read(bytes: &[u8]) -> Result<Command<'_>, CallError>
-    ensures { λ r. ⌜ read-result r ≡ reading (now (bytes .entry)) ⌝ }
+// Reads a command, or says why the bytes are none. The body of a command is a part of `bytes`, from the place that it
+// tells on.
+pub fn parse(bytes: &[u8]) -> Result<Command<'_>, Fault>
+    ensures { λ r. ⌜ parse-result r ≡ parsed (now (bytes .entry)) ⌝ }
 {
-    match layout::parse(bytes) {
+    match layout::request_of(bytes) {
         Ok(request) => Ok(Command::of(request)),
-        Err(_) => Err(CallError::Unreadable),
+        Err(fault) => Err(fault),
     }
 }
 
-// Why bytes are no command; none where they are one.
-pub fn fault(bytes: &[u8]) -> Option<Fault>
-    ensures { λ r. ⌜ r ≡ fault-result (parsed (now (bytes .entry))) ⌝ }
+// The same, where every fault is refused by one number.
+pub fn read(bytes: &[u8]) -> Result<Command<'_>, CallError>
+    ensures { λ r. ⌜ read-result r ≡ reading (now (bytes .entry)) ⌝ }
 {
-    match layout::parse(bytes) {
-        Ok(_) => None,
-        Err(fault) => Some(fault),
+    match parse(bytes) {
+        Ok(command) => Ok(command),
+        Err(fault) => Err(fault.refusal()),
     }
 }

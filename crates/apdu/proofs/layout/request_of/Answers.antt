@@ -5,7 +5,7 @@ use lib.ListN.{length}
 use Rattle.std.proofs.shelf.Results.{err-from-errBy}
 use Rattle.std.specs.declared.result.Result.the-variants.{Ok}
 use Rattle.apdu.proofs.Cuts.{parsed-cut}
-use Rattle.apdu.proofs.layout.parse.Needs as need
+use Rattle.apdu.proofs.layout.request_of.Needs as need
 
 pub returns-in-Break-form : need.returns-in-Break-form
 returns-in-Break-form c =
