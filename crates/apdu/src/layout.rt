@@ -3,7 +3,6 @@ ghost use mathlib.Core.Path.{_≡_};
 ghost use Prim.Native.Nat.{_+_, _≤_};
 ghost use lib.ListN.{length};
 ghost use Rattle.std.specs.Results.{Cases};
-ghost use Rattle.std.specs.declared.result.Result.the-variants.{Ok};
 ghost use Rattle.apdu.specs.Forms.{formed};
 ghost use Rattle.apdu.specs.Reading.{request-result, request-read, at-place, parsed};
 use crate::commands::Header;

@@ -26,10 +26,8 @@ pub use status::StatusWordDisplay;
 pub fn parse(bytes: &[u8]) -> Result<Command<'_>, Fault>
     ensures { λ r. ⌜ parse-result r ≡ parsed (now (bytes .entry)) ⌝ }
 {
-    match layout::request_of(bytes) {
-        Ok(request) => Ok(Command::of(request)),
-        Err(fault) => Err(fault),
-    }
+    let request = layout::request_of(bytes)?;
+    Ok(Command::of(request))
 }
 
 // The same, where every fault is refused by one number.

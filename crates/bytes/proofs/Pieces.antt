@@ -5,7 +5,7 @@ use Prim.Native.Nat.{ℕ, _+_, _-_, _≤_}
 use native.Mathlib.Omega.{arith}
 use lib.ListN.{length, take, drop}
 use borrow.Rule.Slice.PartMut.{putMid}
-use Rattle.std.proofs.shelf.Lists.{take-at, drop-at, take-all, take-take, take-append-le, drop-append-le, drop-drop, drop-take, length-take-le, length-drop, length-append, append-assoc, append-nil}
+use Rattle.std.proofs.shelf.Lists.{take-at, drop-at, take-take, take-append-le, drop-append-le, drop-drop, drop-take, length-take-le, length-drop, length-append, append-assoc}
 use Rattle.bytes.specs.Parts.{part, overwritten}
 
 -- a write to `xs[a..a + k]`, at the numbers of a contract

@@ -10,7 +10,9 @@ ghost use Rattle.bytes.specs.Parts.{inside, overwritten, copied};
 
 // The number that bytes write, of any width up to eight bytes; none for more.
 pub fn read_be(bytes: &[u8]) -> Option<u64>
-    ensures { λ r. ⌜ r ≡ number-read (now (bytes .entry)) ⌝ }
+    ensures value { λ r. ⌜ r ≡ number-read (now (bytes .entry)) ⌝ }
+    ensures bound { λ r. ⌜ ((v : ℕ) → r ≡ Some v → v < 256 ^ length (now (bytes .entry))) ⌝ }
+    ensures back { λ r. ⌜ ((v : ℕ) → r ≡ Some v → be (length (now (bytes .entry))) v ≡ now (bytes .entry)) ⌝ }
 {
     if bytes.len() > 8 {
         None
@@ -24,6 +26,7 @@ fn value_of(bytes: &[u8]) -> u64
     requires { ⌜ length (now bytes) ≤ 8 ⌝ }
     ensures value { λ r. ⌜ r ≡ big (now (bytes .entry)) ⌝ }
     ensures bound { λ r. ⌜ r < 256 ^ length (now (bytes .entry)) ⌝ }
+    ensures back { λ r. ⌜ be (length (now (bytes .entry))) r ≡ now (bytes .entry) ⌝ }
 {
     let mut v: u64 = 0;
     for b in bytes {

@@ -1,5 +1,5 @@
 -- Decoding, one step on: past a blank, past a byte, and at a fault.
-use mathlib.Core.Path.{_≡_, refl, sym, ap, subst, _∙_}
+use mathlib.Core.Path.{_≡_, refl, sym, ap, _∙_}
 use mathlib.Core.Bool.{Bool, true, false, cond}
 use mathlib.Core.List.{List, [], _∷_, _++_}
 use Prim.Native.Nat.{ℕ, _+_, _-_, _<_, _≤_}
@@ -10,7 +10,7 @@ use Rattle.std.proofs.shelf.Lists.{append-assoc, append-nil, at-drop-more, at-d
 use Rattle.std.specs.declared.result.Result.{Result}
 use Rattle.std.specs.declared.result.Result.the-variants.{Ok, Err}
 use Rattle.hex.specs.declared.errors.HexError.{HexError}
-use Rattle.hex.specs.Text.{blank, first, before, then, two-digits, digit-value, alone, decoded}
+use Rattle.hex.specs.Text.{blank, first, before, digit-value, alone, decoded}
 
 -- a blank writes nothing
 blank-more : (c : ℕ) (rest : List ℕ) → blank c ≡ true → decoded (c ∷ rest) ≡ decoded rest

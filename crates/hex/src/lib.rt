@@ -1,6 +1,5 @@
 // Bytes written in hexadecimal: two digits of either case a byte, and blanks between bytes as one likes. A lone `-`
 // stands for no bytes.
-ghost use mathlib.Core.Path.{_≡_};
 ghost use Rattle.hex.specs.Text.{Gives, bytes-of, decoded};
 use std::alloc::Global;
 

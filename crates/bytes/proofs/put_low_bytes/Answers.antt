@@ -1,6 +1,6 @@
-use mathlib.Core.Path.{_≡_, ap, _∙_}
+use mathlib.Core.Path.{ap, _∙_}
 use lib.ListN.{length}
-use Rattle.bytes.specs.Big.{be, big}
+use Rattle.bytes.specs.Big.{big}
 use Rattle.bytes.proofs.Bigs.{big-be, low-bytes}
 use Rattle.bytes.proofs.put_low_bytes.Needs as need
 
