@@ -1,1 +1,3 @@
 mod Cuts
+mod Only
+pub mod Written

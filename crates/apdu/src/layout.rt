@@ -5,6 +5,7 @@ ghost use lib.ListN.{length};
 ghost use Rattle.std.specs.Results.{Cases};
 ghost use Rattle.apdu.specs.Forms.{formed};
 ghost use Rattle.apdu.specs.Reading.{request-result, request-read, at-place, parsed};
+ghost use Rattle.apdu.specs.Writings.{Way-back};
 use crate::commands::Header;
 use crate::commands::Request;
 use crate::extended::extended_form;
@@ -22,7 +23,8 @@ pub(crate) struct Form {
 
 // Reads the header, and the rest by its form.
 pub(crate) fn request_of(bytes: &[u8]) -> Result<Request<'_>, Fault>
-    ensures { λ r. ⌜ request-result r ≡ parsed (now (bytes .entry)) ⌝ }
+    ensures value { λ r. ⌜ request-result r ≡ parsed (now (bytes .entry)) ⌝ }
+    ensures forms { λ _. ⌜ Way-back (now (bytes .entry)) ⌝ }
 {
     let [class, instruction, p1, p2, rest @ ..] = bytes else {
         return Err(Fault::NoHeader);

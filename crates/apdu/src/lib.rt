@@ -1,6 +1,7 @@
 // Commands as they come from a terminal; with them, the words and numbers that answer one.
 ghost use mathlib.Core.Path.{_≡_};
 ghost use Rattle.apdu.specs.Reading.{parse-result, parsed, read-result, reading};
+ghost use Rattle.apdu.specs.Writings.{Way-back};
 
 pub mod commands;
 mod extended;
@@ -22,9 +23,10 @@ pub use status::StatusWord;
 pub use status::StatusWordDisplay;
 
 // Reads a command, or says why the bytes are none. The body of a command is a part of `bytes`, from the place that it
-// tells on.
+// tells on. What is written in one of the seven forms is read as what it says, and only that is a command.
 pub fn parse(bytes: &[u8]) -> Result<Command<'_>, Fault>
-    ensures { λ r. ⌜ parse-result r ≡ parsed (now (bytes .entry)) ⌝ }
+    ensures value { λ r. ⌜ parse-result r ≡ parsed (now (bytes .entry)) ⌝ }
+    ensures forms { λ _. ⌜ Way-back (now (bytes .entry)) ⌝ }
 {
     let request = layout::request_of(bytes)?;
     Ok(Command::of(request))
