@@ -1,0 +1,4 @@
+pub mod Givings
+pub mod Flats
+pub mod Tapes
+pub mod Layings

@@ -1,0 +1,4 @@
+pub mod Sizes
+pub mod Meaning
+pub mod Flat
+pub mod Tape
