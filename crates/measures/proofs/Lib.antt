@@ -1,0 +1,4 @@
+pub mod Every
+pub mod Padding
+pub mod Places
+pub mod Rows
