@@ -1,0 +1,7 @@
+pub mod Marks
+pub mod Puts
+pub mod Parcels
+pub mod Laws
+pub mod Canon
+pub mod Rereads
+pub mod Firsts
