@@ -5,7 +5,7 @@ use Rattle.std.proofs.lemmas.List.{length-append, length-take-le, get_or_at, get
 use Rattle.std.proofs.lemmas.Bool.{leb-true}
 use Rattle.std.proofs.lemmas.Bool.Decides.{nat_tests}
 use Rattle.apdu.specs.declared.kinds.Kind.{Kind}
-use Rattle.bytes.specs.Big.{be}
+use Rattle.octets.specs.Big.{be}
 use Rattle.status.specs.declared.words.StatusWord.{StatusWord}
 use Rattle.status.specs.Words.{word_value}
 use Rattle.answers.proofs.Joins.{Bytes}

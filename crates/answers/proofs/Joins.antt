@@ -4,10 +4,10 @@ use Rattle.std.proofs.ByRecursion.{All-from_get_or}
 use Rattle.std.proofs.lemmas.List.{length-drop, get_or-drop, get_or-take, take_all, take-append-drop, drop-drop, drop_more}
 use Rattle.std.proofs.lemmas.Bool.Decides.{nat_tests}
 use Rattle.std.specs.Int.Digits.{AllBelowBase}
-use Rattle.bytes.specs.Big.{be, big}
-use Rattle.bytes.specs.Parts.{part}
-use Rattle.bytes.proofs.Bigs.{be-big}
-use Rattle.bytes.proofs.Pieces.{length-part}
+use Rattle.octets.specs.Big.{be, big}
+use Rattle.octets.specs.Parts.{part}
+use Rattle.octets.proofs.Bigs.{be-big}
+use Rattle.octets.proofs.Pieces.{length-part}
 use Rattle.measures.specs.declared.invoices.Transaction.{Transaction}
 use Rattle.measures.specs.Bodies.{transaction_byte}
 use Rattle.answers.specs.Fields.{Signed, signed_bytes, transaction_said, signed_in, amounts_in, amounts_bytes}

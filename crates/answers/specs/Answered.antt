@@ -1,7 +1,7 @@
 -- How a command is answered, and checking as the way back from it.
 use Rattle.std.specs.Prelude.{◌≡◌, ℕ, cond, List, ◌++◌, length, Some, None, Ok, Option}
 use Rattle.apdu.specs.declared.kinds.Kind.{Kind}
-use Rattle.bytes.specs.Big.{be}
+use Rattle.octets.specs.Big.{be}
 use Rattle.status.specs.declared.words.StatusWord.{StatusWord}
 use Rattle.status.specs.Words.{word_value}
 use Rattle.answers.specs.Sizes.{word_size}

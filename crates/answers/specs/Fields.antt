@@ -1,7 +1,7 @@
 -- The fields of a signing answer and of an answer of amounts.
 use Rattle.std.specs.Prelude.{ℕ, ◌+◌, cond, List, ◌∷◌, ◌++◌, length, Some, None, Option, ◌==◌, slice_index}
-use Rattle.bytes.specs.Big.{be, big}
-use Rattle.bytes.specs.Parts.{part}
+use Rattle.octets.specs.Big.{be, big}
+use Rattle.octets.specs.Parts.{part}
 use Rattle.measures.specs.declared.invoices.Transaction.{Transaction}
 use Rattle.measures.specs.declared.invoices.Transaction.TheVariants.{Sale, Refund}
 use Rattle.measures.specs.Bodies.{transaction_byte}

@@ -1,14 +1,14 @@
 // The fields of a signing answer and of an answer of amounts, for those who reconcile.
 ghost use Rattle.std.specs.Prelude.{◌≡◌, ◌+◌, ◌≤◌, length, Some, slice_index};
 ghost use Rattle.std.specs.Option.{option_map};
-ghost use Rattle.bytes.specs.Big.{big};
-ghost use Rattle.bytes.specs.Parts.{part};
+ghost use Rattle.octets.specs.Big.{big};
+ghost use Rattle.octets.specs.Parts.{part};
 ghost use Rattle.measures.specs.Sizes.{amount_size, number_size, transaction_at};
 ghost use Rattle.answers.specs.Sizes.{amounts_size, signed_size};
 ghost use Rattle.answers.specs.Fields.{Signed, signed, signed_bytes, transaction_said, signed_in, signed_as, signed_read, amounts_in, amounts_bytes, amounts_read};
 
 use crate::sizes::{AMOUNT_SIZE, AMOUNTS_SIZE, BLOCK_AT, SEAL_AT, SIDE_AT, SIGNED_SIZE, TOTAL_AT};
-use bytes::read_be;
+use octets::read_be;
 use measures::Transaction;
 use measures::sizes::{AMOUNT_AT, BUYER_AT, NUMBER_SIZE, TAXPAYER_AT, TRANSACTION_AT, TYPE_AT};
 

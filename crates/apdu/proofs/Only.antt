@@ -6,7 +6,7 @@ use Rattle.std.proofs.ByRecursion.{All-get_or, All-from_get_or}
 use Rattle.std.proofs.lemmas.List.{take-append-drop, drop_more, drop_all, length-take-le}
 use Rattle.std.proofs.lemmas.Bool.Decides.{nat_tests, eqb_tells}
 use Rattle.std.specs.Int.Digits.{AllBelowBase}
-use Rattle.bytes.specs.Big.{be}
+use Rattle.octets.specs.Big.{be}
 use Rattle.apdu.specs.declared.commands.Header.{Header}
 use Rattle.apdu.specs.declared.faults.Fault.{Fault}
 use Rattle.apdu.specs.declared.faults.Fault.TheVariants.{NoHeader, HalfLength, EmptyBody, CutBody, HalfLe, TrailingBytes}

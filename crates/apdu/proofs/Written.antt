@@ -3,7 +3,7 @@ use Rattle.std.proofs.Common.{◌≡◌, ℕ, ◌+◌, ◌*◌, ◌/◌, ◌%◌
 use lib.Arith.{mod-mul}
 use Rattle.std.proofs.lemmas.List.{length-append, get_or_at, get_or-append-add, take_at, take_all}
 use Rattle.std.proofs.lemmas.Bool.Decides.{nat_tests}
-use Rattle.bytes.specs.Big.{be}
+use Rattle.octets.specs.Big.{be}
 use Rattle.apdu.specs.declared.commands.Header.{Header}
 use Rattle.apdu.specs.declared.layout.Form.{Form}
 use Rattle.apdu.specs.Forms.{form, formed, extended, short_body, long_body, short_le, long_le}

@@ -1,6 +1,6 @@
 -- What a command says: its kind, its header, its body with the place of that, and Le.
 use Rattle.std.specs.Prelude.{ℕ, ◌+◌, List, [], ◌∷◌, Ok, Err, Option, Result}
-use Rattle.bytes.specs.Parts.{part}
+use Rattle.octets.specs.Parts.{part}
 use Rattle.apdu.specs.declared.commands.Header.{Header}
 use Rattle.apdu.specs.declared.commands.Request.{Request}
 use Rattle.apdu.specs.declared.commands.Command.{Command}

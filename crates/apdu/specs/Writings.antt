@@ -1,6 +1,6 @@
 -- The seven forms in which a command is written, and reading as the way back from them.
 use Rattle.std.specs.Prelude.{◌≡◌, ℕ, ◌^◌, ◌<◌, ◌≤◌, List, [], ◌∷◌, ◌++◌, length, Some, None, Ok, Option}
-use Rattle.bytes.specs.Big.{be}
+use Rattle.octets.specs.Big.{be}
 use Rattle.apdu.specs.declared.commands.Header.{Header}
 use Rattle.apdu.specs.Kinds.{kind_of}
 use Rattle.apdu.specs.Reading.{Reading, parsed}

@@ -12,8 +12,8 @@ use Rattle.apdu.specs.Kinds.{kind_of}
 use Rattle.apdu.specs.Reading.{reading, refused}
 use Rattle.apdu.specs.Writings.{Width, short, long, Writing, bare, with_le, with_body, with_both, LeAllowed, Allowed, written, body_of, place_of, le_of, said}
 use Rattle.apdu.proofs.Written.{read_written}
-use Rattle.bytes.specs.Big.{be}
-use Rattle.bytes.specs.Parts.{part}
+use Rattle.octets.specs.Big.{be}
+use Rattle.octets.specs.Parts.{part}
 use Rattle.measures.specs.Bodies.{category_count, signing_length, invoice_read}
 use Rattle.host.specs.declared.faults.BuildFault.{BuildFault}
 use Rattle.host.specs.declared.faults.BuildFault.TheVariants.{WrongBodyLength}

@@ -2,8 +2,8 @@
 use Rattle.std.proofs.Common.{◌≡◌, ℕ, ◌+◌, ◌<◌, ◌≤◌, Bool, true, false, cond, leb, List, ◌++◌, length, take, drop, Ok, Err, Result, sym, refl, ap, ◌∙◌, arith}
 use Rattle.std.proofs.lemmas.List.{length-append, append_assoc, take_at}
 use Rattle.std.proofs.lemmas.Bool.{le-leb, lt-leb}
-use Rattle.bytes.specs.Parts.{overwritten}
-use Rattle.bytes.proofs.Pieces.{overwritten_next}
+use Rattle.octets.specs.Parts.{overwritten}
+use Rattle.octets.proofs.Pieces.{overwritten_next}
 use Rattle.host.specs.declared.faults.BuildFault.{BuildFault}
 use Rattle.host.specs.declared.faults.BuildFault.TheVariants.{SmallBuffer}
 use Rattle.host.specs.Building.{put_value, put_after}

@@ -3,7 +3,7 @@ use Rattle.std.specs.Prelude.{◌≡◌, ℕ, true, List, length, Some, Ok}
 use Rattle.answers.specs.Lengths.{data_length, le_enough}
 use Rattle.apdu.specs.declared.kinds.Kind.{Kind}
 use Rattle.apdu.specs.Reading.{Reading, reading}
-use Rattle.bytes.specs.Parts.{part}
+use Rattle.octets.specs.Parts.{part}
 use Rattle.host.specs.declared.forms.Form.{Form}
 use Rattle.host.specs.Published.{shape_place, shape_le, published}
 

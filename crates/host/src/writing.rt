@@ -1,7 +1,7 @@
 // Writing a command.
 ghost use Rattle.std.specs.Prelude.{◌≡◌, ◌+◌, ◌<◌, ◌≤◌, [], ◌∷◌, ◌++◌, length};
-ghost use Rattle.bytes.specs.Big.{be};
-ghost use Rattle.bytes.specs.Parts.{overwritten};
+ghost use Rattle.octets.specs.Big.{be};
+ghost use Rattle.octets.specs.Parts.{overwritten};
 ghost use Rattle.apdu.specs.Writings.{Allowed};
 ghost use Rattle.host.specs.Published.{shaped, command_in};
 ghost use Rattle.host.specs.Building.{put_value, put_after};
@@ -9,7 +9,7 @@ ghost use Rattle.host.specs.Building.{put_value, put_after};
 use crate::faults::BuildFault;
 use crate::forms::{Form, Shape};
 use apdu::Header;
-use bytes::copy_at;
+use octets::copy_at;
 
 // Writes the command of a form with a body that it takes to the beginning of `out`, and answers its length.
 pub(crate) fn put_command(form: Form, body: &[u8], out: &mut [u8]) -> Result<usize, BuildFault>

@@ -1,5 +1,5 @@
 // What the tests share: bytes to work on, and an invoice.
-use bytes::copy_at;
+use octets::copy_at;
 use std::process::Abort;
 
 // Puts bytes in the place of others.

@@ -5,10 +5,10 @@ use Rattle.std.proofs.ByRecursion.{All-take, All-drop}
 use Rattle.std.proofs.lemmas.Bool.{and_parts}
 use Rattle.std.proofs.lemmas.Int.Digits.{number_lt}
 use Rattle.std.specs.Int.Digits.{AllBelowBase}
-use Rattle.bytes.specs.Big.{be, big}
-use Rattle.bytes.specs.Parts.{part}
-use Rattle.bytes.proofs.Bigs.{be-big}
-use Rattle.bytes.proofs.Pieces.{length-part, part-part}
+use Rattle.octets.specs.Big.{be, big}
+use Rattle.octets.specs.Parts.{part}
+use Rattle.octets.proofs.Bigs.{be-big}
+use Rattle.octets.proofs.Pieces.{length-part, part-part}
 use Rattle.measures.specs.Lists.{every}
 use Rattle.ledger.specs.Sides.{packed_sides, sides_in}
 use Rattle.ledger.proofs.Halves.{packed_sides-sides_in}

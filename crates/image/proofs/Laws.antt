@@ -1,9 +1,9 @@
 -- The fields of what was written are the same, and a buffer's beginning is written whole.
 use Rattle.std.proofs.Common.{◌≡◌, ℕ, ◌+◌, ◌-◌, ◌^◌, ◌<◌, ◌≤◌, cond, eqb, List, [], ◌++◌, length, get_or, take, drop, Some, None, Option, sym, refl, ap, ◌∙◌, mod-eq_of_lt, arith, lit<}
 use Rattle.std.proofs.lemmas.List.{get_or-take, get_or-drop, drop_all, append-nil, length-take}
-use Rattle.bytes.specs.Big.{be, big}
-use Rattle.bytes.specs.Parts.{part}
-use Rattle.bytes.proofs.Bigs.{big-be}
+use Rattle.octets.specs.Big.{be, big}
+use Rattle.octets.specs.Parts.{part}
+use Rattle.octets.proofs.Bigs.{big-be}
 use Rattle.ledger.specs.Sides.{Sides, packed_sides, sides_in}
 use Rattle.image.specs.declared.fields.LastAnswer.{LastAnswer}
 use Rattle.image.specs.declared.fields.LastAnswer.TheVariants.{Nothing, Signed}

@@ -1,6 +1,6 @@
 -- The last answer in the bytes of an image, by its flag.
 use Rattle.std.proofs.Common.{◌≡◌, ℕ, cond, List, get_or, sym, ap, ne_eqb}
-use Rattle.bytes.specs.Parts.{part}
+use Rattle.octets.specs.Parts.{part}
 use Rattle.image.specs.declared.fields.LastAnswer.TheVariants.{Nothing, Signed}
 use Rattle.image.specs.Places.{last_at, answer_at, answer_width}
 use Rattle.image.specs.Layout.{last_in}

@@ -1,8 +1,8 @@
 -- Fields laid end to end, and cut out again.
 use Rattle.std.proofs.Common.{◌≡◌, ℕ, zero, suc, ◌+◌, ◌-◌, ◌<◌, List, [], ◌∷◌, ◌++◌, length, get_or, take, drop, sym, refl, ap, ◌∙◌, arith, take-add}
 use Rattle.std.proofs.lemmas.List.{take_at, append_assoc, length-append, drop-drop}
-use Rattle.bytes.specs.Parts.{part, overwritten}
-use Rattle.bytes.proofs.Pieces.{part_right, overwritten_next}
+use Rattle.octets.specs.Parts.{part, overwritten}
+use Rattle.octets.proofs.Pieces.{part_right, overwritten_next}
 use Rattle.image.specs.Layout.{joined}
 use Rattle.image.specs.Filling.{put_at, filled}
 

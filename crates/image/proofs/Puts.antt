@@ -1,10 +1,10 @@
 -- Fields written to their places.
 use Rattle.std.proofs.Common.{◌≡◌, ℕ, ◌+◌, ◌-◌, ◌*◌, ◌^◌, ◌<◌, ◌≤◌, Bool, true, cond, ◌&&◌, ltb, leb, List, length, refl, ap, ◌∙◌, arith, lt-ltb, eq-eqb, le-leb}
 use borrow.Rule.Slice.PartMut.{put_mid}
-use Rattle.bytes.specs.Big.{be, number_written}
-use Rattle.bytes.specs.Parts.{part}
-use Rattle.bytes.proofs.Bigs.{length-be}
-use Rattle.bytes.proofs.Pieces.{put_mid_is, length-part}
+use Rattle.octets.specs.Big.{be, number_written}
+use Rattle.octets.specs.Parts.{part}
+use Rattle.octets.proofs.Bigs.{length-be}
+use Rattle.octets.proofs.Pieces.{put_mid_is, length-part}
 use Rattle.image.specs.Filling.{put_at}
 use Rattle.ledger.specs.Sides.{Sides, packed_sides, sides_sized, sides_written}
 

@@ -1,7 +1,7 @@
 -- A written image has no flaw in its layout, and so is read as the same image.
 use Rattle.std.proofs.Common.{◌≡◌, ℕ, ◌+◌, ◌<◌, true, cond, ◌&&◌, eqb, List, ◌++◌, length, get_or, Some, None, Ok, Err, Option, sym, refl, ap, ◌∙◌, lit<, eq-eqb}
-use Rattle.bytes.specs.Big.{be}
-use Rattle.bytes.specs.Parts.{part}
+use Rattle.octets.specs.Big.{be}
+use Rattle.octets.specs.Parts.{part}
 use Rattle.stores.specs.Sizes.{image_size}
 use Rattle.image.specs.declared.fields.LastAnswer.{LastAnswer}
 use Rattle.image.specs.declared.fields.LastAnswer.TheVariants.{Nothing, Signed}

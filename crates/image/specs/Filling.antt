@@ -1,6 +1,6 @@
 -- A buffer that is filled field by field.
 use Rattle.std.specs.Prelude.{ℕ, ◌+◌, List, [], ◌∷◌}
-use Rattle.bytes.specs.Parts.{overwritten}
+use Rattle.octets.specs.Parts.{overwritten}
 
 -- a buffer with a field written to a place
 unfoldable pub put_at : ℕ → List ℕ → List ℕ → List ℕ

@@ -1,7 +1,7 @@
 -- What an image means, and how it lies in bytes.
 use Rattle.std.specs.Prelude.{ℕ, cond, List, [], ◌∷◌, ◌++◌, replicate, Some, None, Option, ◌==◌, slice_index}
-use Rattle.bytes.specs.Big.{be, big}
-use Rattle.bytes.specs.Parts.{part}
+use Rattle.octets.specs.Big.{be, big}
+use Rattle.octets.specs.Parts.{part}
 use Rattle.ledger.specs.Sides.{Sides, sides, packed_sides, sides_in}
 use Rattle.image.specs.declared.fields.Image.{Image}
 use Rattle.image.specs.declared.fields.Mark.{Mark}

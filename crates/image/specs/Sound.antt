@@ -1,6 +1,6 @@
 -- Soundness: what an image must keep, clause by clause.
 use Rattle.std.specs.Prelude.{◌≡◌, ℕ, ◌+◌, ◌-◌, ◌^◌, Bool, true, cond, ◌&&◌, List, length, drop, Ok, Err, Result, ◌==◌, nat_le, slice_index}
-use Rattle.bytes.specs.Parts.{part}
+use Rattle.octets.specs.Parts.{part}
 use Rattle.measures.specs.Lists.{every}
 use Rattle.stores.specs.Sizes.{image_size}
 use Rattle.image.specs.declared.fields.Image.{Image}

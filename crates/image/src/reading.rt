@@ -1,6 +1,6 @@
 // Reading the fields of an image from its bytes.
 ghost use Rattle.std.specs.Prelude.{◌≡◌, ◌*◌, length};
-ghost use Rattle.bytes.specs.Parts.{part};
+ghost use Rattle.octets.specs.Parts.{part};
 ghost use Rattle.ledger.specs.Sides.{sides, sides_in};
 ghost use Rattle.stores.specs.Sizes.{image_size};
 ghost use Rattle.image.specs.Places.{answer_at, answer_width};
@@ -15,7 +15,7 @@ use crate::places::{
     ROWS_AT, SUMS_AT, TRIES_AT, UNAUDITED_AT,
 };
 use crate::sound::check_records;
-use bytes::read_be;
+use octets::read_be;
 use ledger::{StoredMeasure, Tally};
 use stores::IMAGE_SIZE;
 

@@ -1,6 +1,6 @@
 // Writing the fields of an image to its bytes.
 ghost use Rattle.std.specs.Prelude.{◌≡◌, ◌+◌, ◌*◌, ◌^◌, ◌<◌, ◌≤◌, true, ◌++◌, length, drop, Ok};
-ghost use Rattle.bytes.specs.Big.{be};
+ghost use Rattle.octets.specs.Big.{be};
 ghost use Rattle.ledger.specs.Sides.{sides, packed_sides};
 ghost use Rattle.stores.specs.Sizes.{image_size};
 ghost use Rattle.image.specs.Places.{counters_kind_at, money_kind_at, pin_kind_at, rows_kind_at, last_kind_at, key_kind_at, count_width, sum_width, amount_width, pin_width, answer_width, ids, counters_widths, money_widths, pin_widths, rows_widths, last_widths, key_widths, widths};
@@ -16,7 +16,7 @@ use crate::places::{
     LAST_KIND_AT, LIMIT_AT, MARK_AMOUNT_AT, MARK_AT, MARK_COUNTER_AT, MONEY_KIND_AT, PIN_AT,
     PIN_KIND_AT, ROWS_AT, ROWS_KIND_AT, SUMS_AT, TRIES_AT, UNAUDITED_AT,
 };
-use bytes::{copy_at, write_be};
+use octets::{copy_at, write_be};
 use ledger::{Number, StoredMeasure, Tally};
 use status::CallError;
 use stores::IMAGE_SIZE;

@@ -7,10 +7,10 @@ use Rattle.std.proofs.lemmas.Int.Digits.{number_lt}
 use Rattle.std.proofs.ByRecursion.{All-take, All-drop}
 use Rattle.std.proofs.lemmas.Bool.Decides.{nat_tests}
 use Rattle.std.specs.Int.Digits.{AllBelowBase}
-use Rattle.bytes.specs.Big.{be, big, number_read, writable, number_written}
-use Rattle.bytes.specs.Parts.{part, overwritten}
-use Rattle.bytes.proofs.Bigs.{length-be, big-be, be-big}
-use Rattle.bytes.proofs.Pieces.{put_mid_is, overwritten_next, length-part}
+use Rattle.octets.specs.Big.{be, big, number_read, writable, number_written}
+use Rattle.octets.specs.Parts.{part, overwritten}
+use Rattle.octets.proofs.Bigs.{length-be, big-be, be-big}
+use Rattle.octets.proofs.Pieces.{put_mid_is, overwritten_next, length-part}
 use Rattle.std.specs.Option.{option_map}
 use Rattle.ledger.specs.Stored.{fields, packed, sized, stored_read}
 

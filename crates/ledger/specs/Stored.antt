@@ -1,6 +1,6 @@
 -- Numbers of one width that lie side by side.
 use Rattle.std.specs.Prelude.{ℕ, zero, suc, ◌*◌, Bool, cond, List, [], ◌∷◌, ◌++◌, length, take, drop, Some, None, Option, ◌==◌}
-use Rattle.bytes.specs.Big.{be, big}
+use Rattle.octets.specs.Big.{be, big}
 
 -- n numbers of w bytes each, read from bytes
 unfoldable pub fields : ℕ → ℕ → List ℕ → List ℕ

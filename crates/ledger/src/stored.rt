@@ -4,7 +4,7 @@ ghost use Rattle.std.specs.Option.{option_map};
 ghost use Rattle.measures.specs.Sizes.{id_count, money_size};
 ghost use Rattle.ledger.specs.Stored.{fields, packed, sized, stored_read, stored_written};
 
-use bytes::{read_be, write_be};
+use octets::{read_be, write_be};
 use measures::sizes::MONEY_SIZE;
 
 // Writes a number of `width` bytes over the whole of `out`, as below.

@@ -2,8 +2,8 @@
 use Rattle.std.proofs.Common.{◌≡◌, ℕ, zero, suc, ◌+◌, ◌*◌, ◌/◌, ◌<◌, ◌≤◌, Bool, true, false, List, length, get_or, drop, sym, refl, ap, ◌∙◌, arith}
 use Rattle.std.proofs.lemmas.List.{drop-drop, get_or-drop}
 use Rattle.std.proofs.lemmas.Bool.Decides.{nat_tests}
-use Rattle.bytes.specs.Big.{big}
-use Rattle.bytes.specs.Parts.{part}
+use Rattle.octets.specs.Big.{big}
+use Rattle.octets.specs.Parts.{part}
 use Rattle.measures.proofs.Every.{every_step, every_fails, every_ends}
 use Rattle.measures.specs.Categories.{Category, category, category_at, categories_of, categories_in, id_known, ids_known}
 

@@ -5,8 +5,8 @@ use Rattle.std.proofs.lemmas.Bool.Decides.{nat_tests}
 use Rattle.measures.specs.Lists.{every}
 use Rattle.measures.specs.Categories.{Category, category, categories_of, id_known, ids_known}
 use Rattle.measures.specs.Counted.{money_ceiling, category_fits, category_added, row_added, row_after}
-use Rattle.bytes.specs.Big.{big}
-use Rattle.bytes.specs.Parts.{part}
+use Rattle.octets.specs.Big.{big}
+use Rattle.octets.specs.Parts.{part}
 use Rattle.measures.proofs.Every.{every_most, some_above}
 use Rattle.measures.proofs.Places.{id_range, places_end, place-within, place_is}
 

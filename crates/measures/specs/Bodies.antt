@@ -1,7 +1,7 @@
 -- The signing body, and the invoice in it.
 use Rattle.std.specs.Prelude.{ℕ, ◌+◌, ◌-◌, ◌*◌, ◌/◌, Bool, cond, ◌&&◌, List, length, drop, Some, None, Option, ◌==◌, nat_le, slice_index}
-use Rattle.bytes.specs.Big.{big}
-use Rattle.bytes.specs.Parts.{part}
+use Rattle.octets.specs.Big.{big}
+use Rattle.octets.specs.Parts.{part}
 use Rattle.measures.specs.declared.invoices.Invoice.{Invoice}
 use Rattle.measures.specs.declared.invoices.Transaction.{Transaction}
 use Rattle.measures.specs.declared.invoices.Transaction.TheVariants.{Sale, Refund}

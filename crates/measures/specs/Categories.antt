@@ -1,7 +1,7 @@
 -- The categories of an invoice.
 use Rattle.std.specs.Prelude.{ℕ, zero, suc, ◌+◌, ◌/◌, Bool, ◌&&◌, List, [], ◌∷◌, length, drop, nat_le, slice_index}
-use Rattle.bytes.specs.Big.{big}
-use Rattle.bytes.specs.Parts.{part}
+use Rattle.octets.specs.Big.{big}
+use Rattle.octets.specs.Parts.{part}
 use Rattle.measures.specs.Lists.{every}
 use Rattle.measures.specs.Sizes.{category_size, amount_size, id_count}
 

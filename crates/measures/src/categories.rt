@@ -1,12 +1,12 @@
 // The categories in the bytes of an invoice: the id of one byte, and the amount of seven.
 ghost use Rattle.std.specs.Prelude.{◌≡◌, ◌+◌, ◌*◌, ◌/◌, ◌≤◌, length, slice_index};
-ghost use Rattle.bytes.specs.Big.{big};
-ghost use Rattle.bytes.specs.Parts.{part};
+ghost use Rattle.octets.specs.Big.{big};
+ghost use Rattle.octets.specs.Parts.{part};
 ghost use Rattle.measures.specs.Sizes.{category_size, amount_size};
 ghost use Rattle.measures.specs.Categories.{categories_of, id_known, ids_known};
 
 use crate::sizes::{CATEGORY_SIZE, ID_COUNT};
-use bytes::read_be;
+use octets::read_be;
 
 // How many categories bytes hold.
 pub(crate) fn category_count(bytes: &[u8]) -> usize

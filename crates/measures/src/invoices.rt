@@ -1,8 +1,8 @@
 // Invoices: what the measures use of a signing body.
 ghost use Rattle.std.specs.Prelude.{◌≡◌, ◌≤◌, true, length, drop};
 ghost use Rattle.std.specs.Option.{option_map};
-ghost use Rattle.bytes.specs.Big.{big};
-ghost use Rattle.bytes.specs.Parts.{part};
+ghost use Rattle.octets.specs.Big.{big};
+ghost use Rattle.octets.specs.Parts.{part};
 ghost use Rattle.measures.specs.Sizes.{head_size, amount_at, amount_size};
 ghost use Rattle.measures.specs.Bodies.{said, transaction_byte, transaction_of, signing_length, count_right, codes_known, parties_good, fields_good, well_formed, taxpayer, said_in, invoice_read};
 
@@ -12,7 +12,7 @@ use crate::sizes::{
     AMOUNT_AT, BUYER_AT, CATEGORY_SIZE, COUNT_AT, HEAD_SIZE, ID_COUNT, IDENTIFIER_SIZE, LAST_TYPE,
     TAXPAYER_AT, TRANSACTION_AT, TYPE_AT,
 };
-use bytes::read_be;
+use octets::read_be;
 
 #[derive(Clone, Copy, PartialEq, Eq, Debug)]
 pub enum Transaction {

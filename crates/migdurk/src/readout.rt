@@ -31,7 +31,7 @@ impl Readout {
         if text.len() == 0 {
             return Ok(());
         }
-        match hex::decode(rt.alloc(), text) {
+        match hex_text::decode(rt.alloc(), text) {
             Ok(bytes) => self.command(rt, number, &bytes),
             Err(e) => {
                 self.no_hexadecimal = self.no_hexadecimal.saturating_add(1);

@@ -95,7 +95,7 @@ impl Words {
 
 // The bytes that a word writes in hexadecimal.
 fn bytes_in(heap: Global, word: &str) -> anyhow::Result<Vec<u8>> {
-    match hex::decode(heap, word.as_bytes()) {
+    match hex_text::decode(heap, word.as_bytes()) {
         Ok(bytes) => Ok(bytes),
         Err(e) => Err(anyhow!(format!(in heap; "'{word}' is not hexadecimal: {e}")?)),
     }

@@ -1,5 +1,5 @@
 // What the tests share: bytes to work on, and parts of them.
-use bytes::copy_at;
+use octets::copy_at;
 use std::process::Abort;
 
 // Fills bytes: they count up from a first one, and start again after 250.

@@ -1,7 +1,7 @@
 -- The bench sealer's two rules, by its key.
 use Rattle.std.specs.Prelude.{ℕ, zero, suc, ◌+◌, ◌*◌, ◌/◌, ◌%◌, cond, List, [], ◌∷◌, map, length, Some, None, fold, Option, ◌==◌, bit_xor, slice_index}
 use Rattle.std.specs.List.{range_with_len}
-use Rattle.bytes.specs.Big.{be}
+use Rattle.octets.specs.Big.{be}
 use Rattle.sealers.specs.Sizes.{answer_size, block_size}
 
 -- byte i mod 4 of the key, its highest byte being byte 0

@@ -2,7 +2,7 @@
 use Rattle.std.specs.Prelude.{ℕ, zero, suc, ◌+◌, Bool, true, false, cond, ◌&&◌, List, [], ◌∷◌, length, take, drop, Some, None, Option, ◌==◌, nat_lt}
 use Rattle.std.specs.Borrow.{Bor}
 use Rattle.std.specs.Str.{bytes_eq}
-use Rattle.bytes.specs.Parts.{part}
+use Rattle.octets.specs.Parts.{part}
 use Rattle.sealers.specs.declared.recorded.Entry as code
 use Rattle.sealers.specs.declared.recorded.Kind.{Kind}
 use Rattle.sealers.specs.declared.recorded.Rule.{Rule}

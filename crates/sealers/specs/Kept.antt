@@ -7,7 +7,7 @@ use Rattle.std.proofs.lemmas.Slice.Eq.{bytes_eq-Decides}
 use Rattle.std.proofs.lemmas.Bool.{and_parts}
 use Rattle.std.specs.List.{AllByRecursion as All}
 use Rattle.std.specs.Str.{bytes_eq}
-use Rattle.bytes.proofs.Pieces.{length-part}
+use Rattle.octets.proofs.Pieces.{length-part}
 use Rattle.sealers.specs.declared.recorded.Kind.{Kind}
 use Rattle.sealers.specs.declared.recorded.Rule.{Rule}
 use Rattle.sealers.specs.declared.recorded.Rule.TheVariants.{Cover, Seal}

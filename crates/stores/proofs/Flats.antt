@@ -2,9 +2,9 @@
 use Rattle.std.proofs.Common.{◌≡◌, ℕ, ◌+◌, ◌^◌, ◌<◌, cond, List, [], ◌++◌, length, take, drop, ap, ◌∙◌, arith, eq-eqb, ne_eqb}
 use borrow.Rule.Slice.PartMut.{put_mid, post_of}
 use Rattle.std.proofs.lemmas.List.{take_at, drop_at, drop_all, drop-drop, length-append, append-nil, take_all}
-use Rattle.bytes.specs.Big.{be, big}
-use Rattle.bytes.specs.Parts.{part}
-use Rattle.bytes.proofs.Bigs.{length-be, big-be}
+use Rattle.octets.specs.Big.{be, big}
+use Rattle.octets.specs.Parts.{part}
+use Rattle.octets.proofs.Bigs.{length-be, big-be}
 use Rattle.stores.specs.Sizes.{image_size, left_width, flat_size}
 use Rattle.stores.specs.Meaning.{no_image}
 use Rattle.stores.specs.Flat.{flat_image, flat_left, flat_filled}

@@ -1,8 +1,8 @@
 -- A tape memory in which an image was laid.
 use Rattle.std.proofs.Common.{◌≡◌, ℕ, zero, suc, ◌+◌, ◌-◌, ◌*◌, ◌/◌, ◌<◌, ◌≤◌, ◌⊎◌, List, length, get_or, take, set, sym, refl, ap, ◌∙◌, ⊎_elim, arith, length-set}
 use Rattle.std.proofs.lemmas.List.{take-set-le, get_or-set_same, get_or-set_other, get_or-take, take_at, take_all}
-use Rattle.bytes.specs.Parts.{part, overwritten}
-use Rattle.bytes.proofs.Pieces.{part-part, length-overwritten}
+use Rattle.octets.specs.Parts.{part, overwritten}
+use Rattle.octets.proofs.Pieces.{part-part, length-overwritten}
 use Rattle.stores.specs.Sizes.{image_size, record_size, kind_written, kind_free}
 use Rattle.stores.specs.Tape.{records, tape_image, tape_left, written_record, freed}
 use Rattle.stores.proofs.Tapes.{kind, Tape, image_of_tape, left_of_tape, le_or}

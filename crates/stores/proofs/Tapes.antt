@@ -3,8 +3,8 @@ use Rattle.std.proofs.Common.{◌≡◌, ℕ, zero, suc, ◌+◌, ◌-◌, ◌*�
 use lib.Seq.{take-set-lt}
 use Rattle.std.proofs.lemmas.List.{drop-drop, get_or-drop, get_or-take, take_at, length-take-le, set-append_left, set-set, take_more_set, drop-set-lt, append_assoc}
 use Rattle.std.proofs.lemmas.Bool.{and_parts}
-use Rattle.bytes.specs.Parts.{part, overwritten}
-use Rattle.bytes.proofs.Pieces.{part-before, part_behind, part_right, length-overwritten}
+use Rattle.octets.specs.Parts.{part, overwritten}
+use Rattle.octets.proofs.Pieces.{part-before, part_behind, part_right, length-overwritten}
 use Rattle.stores.specs.Sizes.{image_size, record_size, kind_written, kind_free}
 use Rattle.stores.specs.Meaning.{no_image}
 use Rattle.stores.specs.Tape.{used, free, records, written, good, place, stands, image_at, left_at, tape_image, tape_left, written_record, CutShort, place-le}

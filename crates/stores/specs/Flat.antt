@@ -1,9 +1,9 @@
 -- The flat store: the writes left, then the image.
 use Rattle.std.specs.Prelude.{◌≡◌, ℕ, ◌-◌, Bool, true, false, cond, ◌&&◌, List, ◌++◌, length, take, ◌==◌, refl}
 use Rattle.std.proofs.Common.{arith, eqb-true}
-use Rattle.bytes.specs.Big.{be, big}
-use Rattle.bytes.specs.Parts.{part}
-use Rattle.bytes.proofs.Pieces.{length-part}
+use Rattle.octets.specs.Big.{be, big}
+use Rattle.octets.specs.Parts.{part}
+use Rattle.octets.proofs.Pieces.{length-part}
 use Rattle.stores.specs.Sizes.{image_size, left_width, flat_size}
 use Rattle.stores.specs.Meaning.{no_image, length-no_image, accepted}
 

@@ -2,8 +2,8 @@
 use Rattle.std.specs.Prelude.{◌≡◌, ℕ, zero, suc, ◌+◌, ◌-◌, ◌*◌, ◌/◌, ◌<◌, ◌≤◌, Bool, true, false, cond, ◌&&◌, List, ◌∷◌, length, drop, set, ◌==◌, nat_le, nat_lt, slice_index, slice_set, refl}
 use Rattle.std.proofs.Common.{sym, ap, ◌∙◌, arith, ltb-true, leb-true, eqb-true}
 use Rattle.std.proofs.lemmas.Bool.{and_parts}
-use Rattle.bytes.specs.Parts.{part, overwritten}
-use Rattle.bytes.proofs.Pieces.{length-part}
+use Rattle.octets.specs.Parts.{part, overwritten}
+use Rattle.octets.proofs.Pieces.{length-part}
 use Rattle.stores.specs.Sizes.{image_size, record_size, kind_written, kind_free}
 use Rattle.stores.specs.Meaning.{no_image, length-no_image, accepted}
 

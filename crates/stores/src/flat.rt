@@ -6,7 +6,7 @@ ghost use Rattle.stores.specs.Sizes.{image_size, flat_size};
 ghost use Rattle.stores.specs.Flat.{flat_filled, flat_image, flat_left, flat_written, flat_fits, flat_laid, flat_whole};
 
 use crate::store::{IMAGE_SIZE, Store, give, give_zeros};
-use bytes::read_be;
+use octets::read_be;
 use status::CallError;
 
 // The bytes of the writes left, and of the whole memory.

@@ -1,6 +1,6 @@
 // The tape store: records of a kind byte and an image, written one after the other.
 ghost use Rattle.std.specs.Prelude.{◌≡◌, ◌+◌, ◌-◌, ◌*◌, ◌<◌, ◌≤◌, true, length, drop, if◌then◌else◌, Ok, ◌==◌, slice_index};
-ghost use Rattle.bytes.specs.Parts.{overwritten};
+ghost use Rattle.octets.specs.Parts.{overwritten};
 ghost use Rattle.stores.specs.Sizes.{image_size, record_size, kind_free};
 ghost use Rattle.stores.specs.Meaning.{readable, read_after, accepted, image_after, left_after, laying};
 ghost use Rattle.stores.specs.Tape.{free, records, written, place, stands, image_at, left_at, tape_image, tape_left, written_record, tape_written, freed, tape_fits, tape_laid, image_whole, one_place, CutShort};

@@ -1,5 +1,5 @@
 // Numbers of several bytes, status words and call numbers.
-use bytes::{copy_at, read_be, write_be};
+use octets::{copy_at, read_be, write_be};
 use status::{CallError, StatusWord};
 
 #[test]

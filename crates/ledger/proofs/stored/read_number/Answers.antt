@@ -1,6 +1,6 @@
 use Rattle.std.proofs.Common.{◌∙◌}
 use Rattle.std.proofs.lemmas.List.{append-nil}
-use Rattle.bytes.specs.Big.{be}
+use Rattle.octets.specs.Big.{be}
 use Rattle.ledger.proofs.Fields.{one_read}
 use Rattle.ledger.proofs.stored.read_number.Goals as goal
 

@@ -1,6 +1,6 @@
 use Rattle.std.proofs.Common.{◌≡◌, length, ap, ◌∙◌, arith}
-use Rattle.bytes.specs.Big.{be}
-use Rattle.bytes.proofs.Bigs.{length-be}
+use Rattle.octets.specs.Big.{be}
+use Rattle.octets.proofs.Bigs.{length-be}
 use Rattle.stores.specs.Sizes.{image_size, left_width}
 use Rattle.stores.specs.Flat.{flat_image, flat_left}
 use Rattle.stores.proofs.Flats.{two_parts, image_filled, left_filled}

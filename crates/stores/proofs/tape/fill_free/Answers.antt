@@ -1,5 +1,5 @@
 use Rattle.std.proofs.Common.{length, refl, arith}
-use Rattle.bytes.proofs.Pieces.{put_mid_is}
+use Rattle.octets.proofs.Pieces.{put_mid_is}
 use Rattle.stores.proofs.tape.fill_free.Goals as goal
 
 pub returns : goal.returns

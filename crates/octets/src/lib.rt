@@ -1,7 +1,7 @@
 // Numbers of several bytes, the highest byte first, and copies into a part of a buffer.
 ghost use Rattle.std.specs.Prelude.{◌≡◌, ℕ, ◌+◌, ◌-◌, ◌*◌, ◌^◌, ◌<◌, ◌≤◌, true, length, Some, nat_le};
-ghost use Rattle.bytes.specs.Big.{be, big, number_read, writable, number_written};
-ghost use Rattle.bytes.specs.Parts.{inside, overwritten, copied};
+ghost use Rattle.octets.specs.Big.{be, big, number_read, writable, number_written};
+ghost use Rattle.octets.specs.Parts.{inside, overwritten, copied};
 
 // The number that bytes write, of any width up to eight bytes; none for more.
 pub fn read_be(bytes: &[u8]) -> Option<u64>

@@ -1,6 +1,6 @@
 use Rattle.std.proofs.Common.{◌≡◌, ◌^◌, ◌<◌, take}
-use Rattle.bytes.specs.Big.{big}
-use Rattle.bytes.proofs.value_of.Given as goal
+use Rattle.octets.specs.Big.{big}
+use Rattle.octets.proofs.value_of.Given as goal
 
 abbrev pub invariant-loop-b : goal.invariant-loop-b
 invariant-loop-b l = (l.v ≡ big (take l.b-index l.bytes)) × (l.v < 256 ^ l.b-index)

@@ -1,6 +1,6 @@
 // Why a text is no bytes in hexadecimal.
 ghost use Rattle.std.specs.Prelude.{Some};
-ghost use Rattle.hex.specs.Errors.{error_text};
+ghost use Rattle.hex_text.specs.Errors.{error_text};
 
 use std::fmt;
 

@@ -2,7 +2,7 @@
 use Rattle.std.proofs.Common.{◌≡◌, ℕ, ◌+◌, ◌-◌, ◌≤◌, List, ◌++◌, length, take, drop, sym, refl, ap, ◌∙◌, arith}
 use borrow.Rule.Slice.PartMut.{put_mid}
 use Rattle.std.proofs.lemmas.List.{take_at, drop_at, take-take, take-append-le, drop-append-le, drop-drop, drop-take, length-take-le, length-drop, length-append, append_assoc}
-use Rattle.bytes.specs.Parts.{part, overwritten}
+use Rattle.octets.specs.Parts.{part, overwritten}
 
 -- a write to `xs[a..a + k]`, at the numbers of a contract
 pub put_mid_is : {X : Type 0} (a k m b : ℕ) (xs ys zs : List X) → k ≡ m → a + m ≡ b → ys ≡ zs → put_mid a k xs ys ≡ take a xs ++ (zs ++ drop b xs)

@@ -1,6 +1,6 @@
 // Digits, and the bytes that two of them write.
 ghost use Rattle.std.specs.Prelude.{◌≡◌, ◌<◌, ◌≤◌, length, IfSome, OnOk};
-ghost use Rattle.hex.specs.Text.{digit_value, blank, dash, first, two_digits};
+ghost use Rattle.hex_text.specs.Text.{digit_value, blank, dash, first, two_digits};
 
 use crate::errors::HexError;
 

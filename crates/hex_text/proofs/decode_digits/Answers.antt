@@ -1,7 +1,7 @@
 use Rattle.std.proofs.Common.{vec_items, sym, arith}
 use Rattle.std.proofs.lemmas.Result.{err_from_is_err_and}
-use Rattle.hex.proofs.Steps.{at_blank, at_byte, byte_within, at_fault, at_end}
-use Rattle.hex.proofs.decode_digits.Goals as goal
+use Rattle.hex_text.proofs.Steps.{at_blank, at_byte, byte_within, at_fault, at_end}
+use Rattle.hex_text.proofs.decode_digits.Goals as goal
 
 pub loop-at-preserved-then-is-blank : goal.loop-at-preserved-then-is-blank
 loop-at-preserved-then-is-blank c =

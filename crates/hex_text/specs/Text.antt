@@ -1,8 +1,8 @@
 -- Bytes written in hexadecimal.
 use Rattle.std.specs.Prelude.{◌≡◌, ℕ, ◌+◌, ◌-◌, ◌*◌, Bool, true, false, cond, ◌&&◌, ◌||◌, List, [], ◌∷◌, ◌++◌, length, Some, None, Ok, Err, vec_items, Option, Result, Vec, ◌==◌, nat_le, slice_index}
 use Rattle.std.specs.declared.alloc.Global.{Global}
-use Rattle.hex.specs.declared.errors.HexError.{HexError}
-use Rattle.hex.specs.declared.errors.HexError.TheVariants.{NoDigit, HalfByte, NoMemory}
+use Rattle.hex_text.specs.declared.errors.HexError.{HexError}
+use Rattle.hex_text.specs.declared.errors.HexError.TheVariants.{NoDigit, HalfByte, NoMemory}
 
 -- whether c is one of the characters from a to z
 abbrev pub among : ℕ → ℕ → ℕ → Bool

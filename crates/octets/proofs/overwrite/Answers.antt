@@ -1,6 +1,6 @@
 use Rattle.std.proofs.Common.{refl, arith}
-use Rattle.bytes.proofs.Pieces.{put_mid_is}
-use Rattle.bytes.proofs.overwrite.Goals as goal
+use Rattle.octets.proofs.Pieces.{put_mid_is}
+use Rattle.octets.proofs.overwrite.Goals as goal
 
 pub returns : goal.returns
 returns c = put_mid_is c.args.at _ _ _ c.args.buffer.now _ _ (omega arith) refl c.copy-from-slice.ensures.after

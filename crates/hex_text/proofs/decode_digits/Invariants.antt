@@ -1,6 +1,6 @@
 use Rattle.std.proofs.Common.{◌≡◌, ◌-◌, ◌≤◌, length, drop, vec_items}
-use Rattle.hex.specs.Text.{decoded, before}
-use Rattle.hex.proofs.decode_digits.Given as goal
+use Rattle.hex_text.specs.Text.{decoded, before}
+use Rattle.hex_text.proofs.decode_digits.Given as goal
 
 -- the bytes so far, before what the rest writes, are what the text writes
 abbrev pub invariant-loop-at : goal.invariant-loop-at

@@ -1,7 +1,7 @@
 use Rattle.std.proofs.Common.{length, ap, ◌∙◌}
-use Rattle.bytes.specs.Big.{big}
-use Rattle.bytes.proofs.Bigs.{big-be, low_bytes}
-use Rattle.bytes.proofs.put_low_bytes.Goals as goal
+use Rattle.octets.specs.Big.{big}
+use Rattle.octets.proofs.Bigs.{big-be, low_bytes}
+use Rattle.octets.proofs.put_low_bytes.Goals as goal
 
 pub returns : goal.returns
 returns c =

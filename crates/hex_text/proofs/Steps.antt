@@ -1,8 +1,8 @@
 -- Decoding, one step on: past a blank, past a byte, and at a fault.
 use Rattle.std.proofs.Common.{◌≡◌, ℕ, ◌+◌, ◌-◌, ◌<◌, ◌≤◌, Bool, true, false, cond, List, [], ◌∷◌, ◌++◌, length, get_or, take, drop, Ok, Err, Result, sym, refl, ap, ◌∙◌, add-zero, arith}
 use Rattle.std.proofs.lemmas.List.{append_assoc, append-nil, at_drop_more, at_drop_all, drop-drop, get_or-drop, length-drop, take_rest}
-use Rattle.hex.specs.declared.errors.HexError.{HexError}
-use Rattle.hex.specs.Text.{blank, first, before, digit_value, alone, decoded}
+use Rattle.hex_text.specs.declared.errors.HexError.{HexError}
+use Rattle.hex_text.specs.Text.{blank, first, before, digit_value, alone, decoded}
 
 -- a blank writes nothing
 blank_more : (c : ℕ) (rest : List ℕ) → blank c ≡ true → decoded (c ∷ rest) ≡ decoded rest

@@ -1,7 +1,7 @@
 -- Why a text is no bytes in hexadecimal, in words.
 use Rattle.std.specs.Prelude.{ℕ, List, ◌++◌, codes, decimal}
-use Rattle.hex.specs.declared.errors.HexError.{HexError}
-use Rattle.hex.specs.declared.errors.HexError.TheVariants.{NoDigit, HalfByte, NoMemory}
+use Rattle.hex_text.specs.declared.errors.HexError.{HexError}
+use Rattle.hex_text.specs.declared.errors.HexError.TheVariants.{NoDigit, HalfByte, NoMemory}
 
 -- what is wrong with the text; a character is told by its code
 abbrev pub error_text : HexError → List ℕ

@@ -2,9 +2,9 @@ use Rattle.std.proofs.Common.{◌≡◌, ◌<◌, length, ap, ◌∙◌, pow-suc
 use Rattle.std.proofs.lemmas.Int.Digits.{number_more}
 use Rattle.std.proofs.ByRecursion.{All-from_get_or}
 use Rattle.std.specs.Int.Digits.{AllBelowBase}
-use Rattle.bytes.specs.Big.{be, big}
-use Rattle.bytes.proofs.Bigs.{power_room, be-big}
-use Rattle.bytes.proofs.value_of.Goals as goal
+use Rattle.octets.specs.Big.{be, big}
+use Rattle.octets.proofs.Bigs.{power_room, be-big}
+use Rattle.octets.proofs.value_of.Goals as goal
 
 pub overflow-mul-v : goal.overflow-mul-v
 overflow-mul-v c = omega (arith, power_room c.loop-b.b-index (omega arith))

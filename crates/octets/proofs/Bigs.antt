@@ -5,7 +5,7 @@ use lib.Arith.{mod-mul, digits_div}
 use Rattle.std.proofs.lemmas.List.{length-drop}
 use Rattle.std.proofs.lemmas.Int.Digits.{number_lt}
 use Rattle.std.specs.Int.Digits.{number_from_digits_after, AllBelowBase}
-use Rattle.bytes.specs.Big.{be, big}
+use Rattle.octets.specs.Big.{be, big}
 
 pub length-be : (k v : ℕ) → length (be k v) ≡ k
 length-be zero v = refl
