@@ -6,5 +6,5 @@ use Rattle.octets.proofs.put_low_bytes.Goals as goal
 pub returns : goal.returns
 returns c =
     let k = length c.args.out.now in
-    let low = low_bytes k c.args.v _ _ c.requires c.to-be-bytes-bytes.ensures c.copy-from-slice.ensures.after in
+    let low = low_bytes k c.args.v _ _ c.requires c.to_be_bytes-bytes.ensures c.copy_from_slice.ensures.after in
     record { after = low; back = λ h. ap big low ∙ big-be k c.args.v h }

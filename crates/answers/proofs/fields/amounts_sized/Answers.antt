@@ -6,4 +6,4 @@ use Rattle.answers.proofs.fields.amounts_sized.Goals as goal
 pub returns : goal.returns
 returns c =
     let is = c.amounts_in.ensures in
-    record { value = is; back = ap amounts_bytes is ∙ amounts_joined c.args.bytes.now (omega arith) (λ i. omega (arith, c.type-inv.bytes i)) }
+    record { value = is; back = ap amounts_bytes is ∙ amounts_joined c.args.bytes.now (omega arith) (λ i. omega (arith, c.type_inv.bytes i)) }

@@ -12,7 +12,7 @@ returns c =
     let key = c.args.key_version in
     let i = meaning c.first-image.result in
     let out = c.args.out.now in
-    let is : i ≡ personal pin limit key = c.first-image.ensures ∙ ap (λ p. personal p limit key) c.pin-of.ensures in
+    let is : i ≡ personal pin limit key = c.first-image.ensures ∙ ap (λ p. personal p limit key) c.pin_of.ensures in
     let size : length out ≡ image_size = omega arith in
     let written = c.encode.ensures.after in
     record { after = first-written pin limit key i out _ is written size; sound = first_sound pin limit key i out _ is written size c.encode.ensures.back c.requires.1.0 }

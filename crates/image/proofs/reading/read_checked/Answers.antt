@@ -6,4 +6,4 @@ use Rattle.image.proofs.reading.read_checked.Goals as goal
 pub returns : goal.returns
 returns c =
     let bs = c.args.bytes.now in
-    record { value = c.read-any.ensures; back = canonical bs (All-from_get_or (λ d. d < 256) bs 0 (λ i h. omega (arith, c.type-inv.bytes i))) }
+    record { value = c.read_any.ensures; back = canonical bs (All-from_get_or (λ d. d < 256) bs 0 (λ i h. omega (arith, c.type_inv.bytes i))) }

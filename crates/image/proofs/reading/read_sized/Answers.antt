@@ -6,10 +6,10 @@ pub returns : goal.returns
 unfolding sized_read
 returns c = search rules
 
-pub returns-in-err-check-records : goal.returns-in-err-check-records
+pub returns-in_err-check_records : goal.returns-in_err-check_records
 unfolding sized_read
-returns-in-err-check-records c = search rules
+returns-in_err-check_records c = search rules
 
-pub returns-in-err-check : goal.returns-in-err-check
+pub returns-in_err-check : goal.returns-in_err-check
 unfolding sized_read
-returns-in-err-check c = search rules
+returns-in_err-check c = search rules

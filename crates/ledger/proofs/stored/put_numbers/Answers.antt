@@ -3,19 +3,19 @@ use Rattle.ledger.specs.Stored.{fields}
 use Rattle.ledger.proofs.Fields.{field_room, written_field, packed_write, packed_all, fields-packed}
 use Rattle.ledger.proofs.stored.put_numbers.Goals as goal
 
-pub overflow-mul-at : goal.overflow-mul-at
-overflow-mul-at c = omega (arith, field_room c.args.width c.loop-i.i (length c.args.numbers.now) (omega arith))
+pub overflow_mul-at : goal.overflow_mul-at
+overflow_mul-at c = omega (arith, field_room c.args.width c.loop-i.i (length c.args.numbers.now) (omega arith))
 
-pub overflow-add-at : goal.overflow-add-at
-overflow-add-at c = omega (arith, field_room c.args.width c.loop-i.i (length c.args.numbers.now) (omega arith))
+pub overflow_add-at : goal.overflow_add-at
+overflow_add-at c = omega (arith, field_room c.args.width c.loop-i.i (length c.args.numbers.now) (omega arith))
 
-pub slice-bounds-write-be-end : goal.slice-bounds-write-be-end
-slice-bounds-write-be-end c = omega (arith, field_room c.args.width c.loop-i.i (length c.args.numbers.now) (omega arith))
+pub slice_bounds-write_be-end : goal.slice_bounds-write_be-end
+slice_bounds-write_be-end c = omega (arith, field_room c.args.width c.loop-i.i (length c.args.numbers.now) (omega arith))
 
 pub loop-i-preserved : goal.loop-i-preserved
 loop-i-preserved c =
     packed_write c.args.width c.loop-i.i c.args.numbers.now c.loop-i.out c.args.out.now _ c.loop-i-test.true c.loop-i.invariant
-    (written_field c.args.width c.loop-i.i (length c.args.numbers.now) _ c.loop-i.out _ c.loop-i-test.true c.requires.0 (omega arith) (c.requires.1.1 c.loop-i.i c.loop-i-test.true) c.write-be.ensures.after)
+    (written_field c.args.width c.loop-i.i (length c.args.numbers.now) _ c.loop-i.out _ c.loop-i-test.true c.requires.0 (omega arith) (c.requires.1.1 c.loop-i.i c.loop-i-test.true) c.write_be.ensures.after)
 
 pub returns : goal.returns
 returns c =

@@ -8,7 +8,7 @@ pub returns : goal.returns
 returns c =
     let l = c.if-bytes-width.false in
     record {
-      value = one_read c.args.width c.args.bytes.now c.read-be.result l c.requires c.read-be.ensures.value;
-      bound = λ v e. rw l at (c.read-be.ensures.bound v e);
-      back = λ v e. append-nil (be c.args.width v) ∙ (rw l at (c.read-be.ensures.back v e));
+      value = one_read c.args.width c.args.bytes.now c.read_be.result l c.requires c.read_be.ensures.value;
+      bound = λ v e. rw l at (c.read_be.ensures.bound v e);
+      back = λ v e. append-nil (be c.args.width v) ∙ (rw l at (c.read_be.ensures.back v e));
     }

@@ -5,5 +5,5 @@ only_one : (n m i : ℕ) → i < 1 → n < m → get_or (n ∷ []) i 0 < m
 only_one n m zero h lt = lt
 only_one n m (suc i) h lt = absurd (omega arith)
 
-pub write-numbers-requires : goal.write-numbers-requires
-write-numbers-requires c = (c.requires.0, (omega arith, λ i h. only_one c.args.number (256 ^ c.args.width) i h c.requires.1))
+pub write_numbers-requires : goal.write_numbers-requires
+write_numbers-requires c = (c.requires.0, (omega arith, λ i h. only_one c.args.number (256 ^ c.args.width) i h c.requires.1))

@@ -16,4 +16,4 @@ pub loop-entry-preserved : goal.loop-entry-preserved
 loop-entry-preserved c = passed c.args.rule c.args.message.now c.loop-entry.rest.now _ (entry_read c.in-Some.entry) c.in-Some.ensures c.if-answers.ensures c.loop-entry.invariant
 
 pub returns : goal.returns
-returns c = record { value = ended c.args.rule c.args.message.now c.loop-entry.rest.now _ c.in-default.ensures c.loop-entry.invariant; size = tt }
+returns c = record { value = ended c.args.rule c.args.message.now c.loop-entry.rest.now _ c.in_default.ensures c.loop-entry.invariant; size = tt }

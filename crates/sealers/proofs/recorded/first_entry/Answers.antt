@@ -9,4 +9,4 @@ returns-in-Some c =
     let deck = c.args.deck.now in
     let l : 0 < length deck = search rules in
     let cut = first-cut deck _ l c.in-Some.ensures in
-    c.entry-of.ensures ∙ ap (entry_in c.in-Some.kind) (take_rest deck 1) ∙ sym cut
+    c.entry_of.ensures ∙ ap (entry_in c.in-Some.kind) (take_rest deck 1) ∙ sym cut

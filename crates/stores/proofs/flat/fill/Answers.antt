@@ -11,7 +11,7 @@ returns c =
     let left = c.args.left in
     let image = c.args.image.now in
     let size : length image ≡ image_size = omega arith in
-    let filled = two_parts left_width image_size c.args.memory.now _ _ (be left_width left) image (omega arith) (length-be left_width left) (c.copy-from-slice.ensures.after ∙ c.to-be-bytes.ensures) c.copy-from-slice-2.ensures.after in
+    let filled = two_parts left_width image_size c.args.memory.now _ _ (be left_width left) image (omega arith) (length-be left_width left) (c.copy_from_slice.ensures.after ∙ c.to_be_bytes.ensures) c.copy_from_slice-2.ensures.after in
     record {
       after = filled;
       image = ap flat_image filled ∙ image_filled left image size;

@@ -10,5 +10,5 @@ returns c =
     let image = c.args.image.now in
     let size : length image ≡ image_size = omega arith in
     let room : record_size ≤ length m = omega arith in
-    let laid = laid_as image m size room _ _ c.put-record.ensures c.free-behind-first.ensures in
+    let laid = laid_as image m size room _ _ c.put_record.ensures c.free_behind_first.ensures in
     record { after = laid; image = ap tape_image laid ∙ image_laid image m size room; left = ap tape_left laid ∙ left_laid image m size room }

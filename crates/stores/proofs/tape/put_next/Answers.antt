@@ -12,7 +12,7 @@ returns c =
     let some : 0 < k = omega arith in
     let room : k < records m = omega arith in
     let size : length new ≡ image_size = omega arith in
-    let put = c.put-record.ensures in
+    let put = c.put_record.ensures in
     record {
       image = ap (image_at (k + 1)) put ∙ image_put k m new some room size;
       left = ap (left_at (k + 1)) put ∙ left_put k m new some room size;

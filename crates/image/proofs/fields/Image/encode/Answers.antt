@@ -7,5 +7,5 @@ use Rattle.image.proofs.fields.Image.encode.Goals as goal
 pub returns : goal.returns
 returns c =
     let i = meaning c.args.self.now in
-    let fits = c.put-records.ensures.fits in
-    record { after = encoded i fits c.args.out.now _ c.put-records.ensures.after (omega arith); back = read_written i fits }
+    let fits = c.put_records.ensures.fits in
+    record { after = encoded i fits c.args.out.now _ c.put_records.ensures.after (omega arith); back = read_written i fits }

@@ -7,8 +7,8 @@ pub returns : goal.returns
 returns g c =
     let w = g.M.StoredMeasure.each in
     let n = g.M.Measure.count in
-    let l : length c.put-measure.new.out ≡ w * n = search rules in
+    let l : length c.put_measure.new.out ≡ w * n = search rules in
     record {
       after = search (rules, overwrites);
-      back = sides-back w n _ c.put-measure.new.out c.put-measure-2.new.out _ _ (search (rules, overwrites)) l c.put-measure.ensures.back c.put-measure-2.ensures.back;
+      back = sides-back w n _ c.put_measure.new.out c.put_measure-2.new.out _ _ (search (rules, overwrites)) l c.put_measure.ensures.back c.put_measure-2.ensures.back;
     }

@@ -5,9 +5,9 @@ pub returns : goal.returns
 returns g c =
     let w = g.M.StoredMeasure.each in
     let n = g.M.Measure.count in
-    let k = c.stored-width-width.result in
-    let is = c.stored-width-width.ensures.value in
+    let k = c.stored_width-width.result in
+    let is = c.stored_width-width.ensures.value in
     record {
-      value = sides-taken w n k c.args.bytes.now is _ _ c.take-measure.ensures.value c.take-measure-2.ensures.value;
-      back = sides-packed w n k c.args.bytes.now is _ _ c.take-measure.ensures.back c.take-measure-2.ensures.back;
+      value = sides-taken w n k c.args.bytes.now is _ _ c.take_measure.ensures.value c.take_measure-2.ensures.value;
+      back = sides-packed w n k c.args.bytes.now is _ _ c.take_measure.ensures.back c.take_measure-2.ensures.back;
     }
