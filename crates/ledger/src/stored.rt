@@ -4,8 +4,8 @@ ghost use Rattle.std.specs.Option.{option_map};
 ghost use Rattle.measures.specs.Sizes.{id_count, money_size};
 ghost use Rattle.ledger.specs.Stored.{fields, packed, sized, stored_read, stored_written};
 
-use octets::{read_be, write_be};
 use measures::sizes::MONEY_SIZE;
+use octets::{read_be, write_be};
 
 // Writes a number of `width` bytes over the whole of `out`, as below.
 pub(crate) fn write_number(out: &mut [u8], width: usize, number: u64) -> bool

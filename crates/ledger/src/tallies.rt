@@ -17,7 +17,7 @@ pub struct Tally<M> {
 impl<M: Measure> Tally<M> {
     // A tally that has counted nothing.
     pub fn zero() -> Tally<M>
-        ensures { sides numbers result ≡ (replicate count 0, replicate count 0) }
+        ensures { sides M.numbers result ≡ (replicate M.count 0, replicate M.count 0) }
     {
         Tally {
             sale: M::zero(),
@@ -37,7 +37,7 @@ impl<M: Measure> Tally<M> {
 
     // Whether an invoice fits the side of its transaction.
     pub fn fits(&self, invoice: &Invoice) -> bool
-        ensures { result ≡ side_fits counted (sides numbers self.now) (said invoice.now) }
+        ensures { result ≡ side_fits M.counted (sides M.numbers self.now) (said invoice.now) }
     {
         match invoice.transaction {
             Transaction::Sale => self.sale.fits(invoice),
@@ -48,7 +48,7 @@ impl<M: Measure> Tally<M> {
     // Counts an invoice on the side of its transaction; one that does not fit is ignored. The other side stays as it
     // was.
     pub fn add(&mut self, invoice: &Invoice)
-        ensures after { sides numbers self.new ≡ tallied counted (sides numbers self.old) (said invoice.now) }
+        ensures after { sides M.numbers self.new ≡ tallied M.counted (sides M.numbers self.old) (said invoice.now) }
         ensures other { other_side invoice.now.transaction (self.new.sale, self.new.refund) ≡ other_side invoice.now.transaction (self.old.sale, self.old.refund) }
     {
         match invoice.transaction {
@@ -61,7 +61,7 @@ impl<M: Measure> Tally<M> {
 impl<M: StoredMeasure> Tally<M> {
     // The bytes of the tally: twice those of its measure.
     pub fn stored_width() -> usize
-        ensures { result ≡ 2 * (each * M.Measure.count) }
+        ensures { result ≡ 2 * (M.each * M.count) }
     {
         2 * M::stored_width()
     }
@@ -69,9 +69,9 @@ impl<M: StoredMeasure> Tally<M> {
     // Writes the sale side and then the refund side over the whole of `out`, and says whether it did: one of another
     // length is left as it was.
     pub fn write(&self, out: &mut [u8]) -> bool
-        ensures value { result ≡ sides_sized each M.Measure.count out.old }
-        ensures after { out.new ≡ sides_written each M.Measure.count (sides M.Measure.numbers self.now) out.old }
-        ensures back { result ≡ true → sides_in each M.Measure.count out.new ≡ sides M.Measure.numbers self.now }
+        ensures value { result ≡ sides_sized M.each M.count out.old }
+        ensures after { out.new ≡ sides_written M.each M.count (sides M.numbers self.now) out.old }
+        ensures back { result ≡ true → sides_in M.each M.count out.new ≡ sides M.numbers self.now }
     {
         if out.len() != Self::stored_width() {
             return false;
@@ -82,8 +82,8 @@ impl<M: StoredMeasure> Tally<M> {
 
     // The tally in bytes; none where they are of another length.
     pub fn read(bytes: &[u8]) -> Option<Tally<M>>
-        ensures value { option_map (sides M.Measure.numbers) result ≡ sides_read each M.Measure.count bytes.now }
-        ensures back { (t : Tally M) → result ≡ Some t → packed_sides each (sides M.Measure.numbers t) ≡ bytes.now }
+        ensures value { option_map (sides M.numbers) result ≡ sides_read M.each M.count bytes.now }
+        ensures back { (t : Tally M) → result ≡ Some t → packed_sides M.each (sides M.numbers t) ≡ bytes.now }
     {
         if bytes.len() != Self::stored_width() {
             return None;
@@ -93,9 +93,9 @@ impl<M: StoredMeasure> Tally<M> {
 
     // Writes the tally over an `out` of its length.
     fn put(&self, out: &mut [u8])
-        requires { length out.old ≡ 2 * (each * M.Measure.count) }
-        ensures after { out.new ≡ packed_sides each (sides M.Measure.numbers self.now) }
-        ensures back { sides_in each M.Measure.count out.new ≡ sides M.Measure.numbers self.now }
+        requires { length out.old ≡ 2 * (M.each * M.count) }
+        ensures after { out.new ≡ packed_sides M.each (sides M.numbers self.now) }
+        ensures back { sides_in M.each M.count out.new ≡ sides M.numbers self.now }
     {
         let width = M::stored_width();
         let end = out.len();
@@ -105,9 +105,9 @@ impl<M: StoredMeasure> Tally<M> {
 
     // The tally in bytes of its length.
     fn take(bytes: &[u8]) -> Tally<M>
-        requires { length bytes.now ≡ 2 * (each * M.Measure.count) }
-        ensures value { sides M.Measure.numbers result ≡ sides_in each M.Measure.count bytes.now }
-        ensures back { packed_sides each (sides M.Measure.numbers result) ≡ bytes.now }
+        requires { length bytes.now ≡ 2 * (M.each * M.count) }
+        ensures value { sides M.numbers result ≡ sides_in M.each M.count bytes.now }
+        ensures back { packed_sides M.each (sides M.numbers result) ≡ bytes.now }
     {
         let width = M::stored_width();
         let end = bytes.len();
@@ -120,18 +120,18 @@ impl<M: StoredMeasure> Tally<M> {
 
 // Writes a measure over an `out` of its length.
 fn put_measure<M: StoredMeasure>(measure: &M, out: &mut [u8])
-    requires { length out.old ≡ each * M.Measure.count }
-    ensures after { out.new ≡ packed each (M.Measure.numbers measure.now) }
-    ensures back { fields each M.Measure.count out.new ≡ M.Measure.numbers measure.now }
+    requires { length out.old ≡ M.each * M.count }
+    ensures after { out.new ≡ packed M.each (M.numbers measure.now) }
+    ensures back { fields M.each M.count out.new ≡ M.numbers measure.now }
 {
     measure.write(out);
 }
 
 // The measure in bytes of its length.
 fn take_measure<M: StoredMeasure>(bytes: &[u8]) -> M
-    requires { length bytes.now ≡ each * M.Measure.count }
-    ensures value { M.Measure.numbers result ≡ fields each M.Measure.count bytes.now }
-    ensures back { packed each (M.Measure.numbers result) ≡ bytes.now }
+    requires { length bytes.now ≡ M.each * M.count }
+    ensures value { M.numbers result ≡ fields M.each M.count bytes.now }
+    ensures back { packed M.each (M.numbers result) ≡ bytes.now }
 {
     M::read(bytes).unwrap()
 }
