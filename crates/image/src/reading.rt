@@ -15,8 +15,8 @@ use crate::places::{
     ROWS_AT, SUMS_AT, TRIES_AT, UNAUDITED_AT,
 };
 use crate::sound::check_records;
-use octets::read_be;
 use ledger::{StoredMeasure, Tally};
+use octets::read_be;
 use stores::IMAGE_SIZE;
 
 impl Image {
@@ -60,8 +60,8 @@ fn read_sized(bytes: &[u8]) -> Result<Image, Flaw>
 
 // The tally in bytes of its length.
 fn tally_in<M: StoredMeasure>(bytes: &[u8]) -> Tally<M>
-    requires { length bytes.now ≡ 2 * (each * M.Measure.count) }
-    ensures { sides M.Measure.numbers result ≡ sides_in each M.Measure.count bytes.now }
+    requires { length bytes.now ≡ 2 * (M.each * M.count) }
+    ensures { sides M.numbers result ≡ sides_in M.each M.count bytes.now }
 {
     Tally::read(bytes).unwrap()
 }

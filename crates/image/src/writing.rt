@@ -16,8 +16,8 @@ use crate::places::{
     LAST_KIND_AT, LIMIT_AT, MARK_AMOUNT_AT, MARK_AT, MARK_COUNTER_AT, MONEY_KIND_AT, PIN_AT,
     PIN_KIND_AT, ROWS_AT, ROWS_KIND_AT, SUMS_AT, TRIES_AT, UNAUDITED_AT,
 };
-use octets::{copy_at, write_be};
 use ledger::{Number, StoredMeasure, Tally};
+use octets::{copy_at, write_be};
 use status::CallError;
 use stores::IMAGE_SIZE;
 
@@ -42,9 +42,9 @@ fn put_number(out: &mut [u8], at: usize, width: usize, v: u64)
 
 // Writes both sides of a tally.
 fn put_tally<M: StoredMeasure>(out: &mut [u8], at: usize, tally: &Tally<M>)
-    requires { at + 2 * (each * M.Measure.count) ≤ length out.old }
-    ensures after { out.new ≡ put_at at (packed_sides each (sides M.Measure.numbers tally.now)) out.old }
-    ensures fits { SidesFit each M.Measure.count (sides M.Measure.numbers tally.now) }
+    requires { at + 2 * (M.each * M.count) ≤ length out.old }
+    ensures after { out.new ≡ put_at at (packed_sides M.each (sides M.numbers tally.now)) out.old }
+    ensures fits { SidesFit M.each M.count (sides M.numbers tally.now) }
 {
     let width = Tally::<M>::stored_width();
     tally.write(&mut out[at..at + width]);
