@@ -7,7 +7,7 @@ use std::test::Fail;
 #[test]
 fn bytes_from_text(rt: HostRuntime) -> Result<(), Fail> {
     let bytes = hex_text::decode(rt.alloc(), b" 00a4 04\t00 FF ")?;
-    assert!(rt; bytes.as_slice() == &[0x00, 0xa4, 0x04, 0x00, 0xff]);
+    assert_eq!(rt; bytes.as_slice(), [0x00, 0xa4, 0x04, 0x00, 0xff].as_slice());
     assert_eq!(rt; hex_text::decode(rt.alloc(), b"-")?.len(), 0);
     assert_eq!(rt; hex_text::decode(rt.alloc(), b"")?.len(), 0);
     Ok(())
