@@ -1,5 +1,5 @@
 -- The fields of a signing answer and of an answer of amounts.
-use Rattle.std.specs.Prelude.{ℕ, ◌+◌, cond, List, ◌∷◌, ◌++◌, length, Some, None, Option, ◌==◌, slice_index}
+use Rattle.std.specs.Prelude.{ℕ, cond, List, ◌∷◌, ◌++◌, length, Some, None, Option, ◌==◌, slice_index}
 use Rattle.octets.specs.Big.{be, big}
 use Rattle.octets.specs.Parts.{part}
 use Rattle.measures.specs.declared.invoices.Transaction.{Transaction}

@@ -8,9 +8,9 @@ ghost use Rattle.answers.specs.Sizes.{amounts_size, signed_size};
 ghost use Rattle.answers.specs.Fields.{Signed, signed, signed_bytes, transaction_said, signed_in, signed_as, signed_read, amounts_in, amounts_bytes, amounts_read};
 
 use crate::sizes::{AMOUNT_SIZE, AMOUNTS_SIZE, BLOCK_AT, SEAL_AT, SIDE_AT, SIGNED_SIZE, TOTAL_AT};
-use octets::read_be;
 use measures::Transaction;
 use measures::sizes::{AMOUNT_AT, BUYER_AT, NUMBER_SIZE, TAXPAYER_AT, TRANSACTION_AT, TYPE_AT};
+use octets::read_be;
 
 // What the data of an accepted signing, or of the last answer, says.
 #[derive(Clone, Copy)]

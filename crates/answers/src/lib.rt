@@ -1,4 +1,6 @@
 // Answers of the card, as a terminal reads them.
+#![tactic(auto)]
+
 pub mod checking;
 pub mod faults;
 pub mod fields;

@@ -1,4 +1,6 @@
 // Commands as they come from a terminal; with them, the words and numbers that answer one.
+#![tactic(auto)]
+
 ghost use Rattle.std.specs.Prelude.{◌≡◌};
 ghost use Rattle.apdu.specs.Reading.{parse_result, parsed, read_result, reading};
 ghost use Rattle.apdu.specs.Writings.{WayBack};

@@ -1,5 +1,7 @@
 // Bytes written in hexadecimal: two digits of either case a byte, and blanks between bytes as one likes. A lone `-`
 // stands for no bytes.
+#![tactic(auto)]
+
 ghost use Rattle.hex_text.specs.Text.{Gives, bytes_of, decoded};
 
 use std::alloc::Global;

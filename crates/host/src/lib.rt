@@ -1,4 +1,6 @@
 // The host side: commands written for the card, and with them the reading of commands and answers.
+#![tactic(auto)]
+
 mod bodies;
 pub mod building;
 pub mod faults;

@@ -1,3 +1,5 @@
+#![tactic(auto)]
+
 // Examples of the host side with known outcomes, run as tests.
 #[cfg(test)]
 mod answers;

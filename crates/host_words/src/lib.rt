@@ -1,4 +1,6 @@
 // What the host side builds and reads, in words.
+#![tactic(auto)]
+
 pub mod answers;
 pub mod commands;
 

@@ -1,5 +1,5 @@
 -- The fields of what was written are the same, and a buffer's beginning is written whole.
-use Rattle.std.proofs.Common.{◌≡◌, ℕ, ◌+◌, ◌-◌, ◌^◌, ◌<◌, ◌≤◌, cond, eqb, List, [], ◌++◌, length, get_or, take, drop, Some, None, Option, sym, refl, ap, ◌∙◌, mod-eq_of_lt, arith, lit<}
+use Rattle.std.proofs.Common.{◌≡◌, ℕ, ◌^◌, ◌<◌, ◌≤◌, cond, eqb, List, [], ◌++◌, length, get_or, take, drop, Some, None, Option, sym, refl, ap, ◌∙◌, mod-eq_of_lt, arith, lit<}
 use Rattle.std.proofs.lemmas.List.{get_or-take, get_or-drop, drop_all, append-nil, length-take}
 use Rattle.octets.specs.Big.{be, big}
 use Rattle.octets.specs.Parts.{part}

@@ -1,5 +1,5 @@
 -- A written image has no flaw in its layout, and so is read as the same image.
-use Rattle.std.proofs.Common.{◌≡◌, ℕ, ◌+◌, ◌<◌, true, cond, ◌&&◌, eqb, List, ◌++◌, length, get_or, Some, None, Ok, Err, Option, sym, refl, ap, ◌∙◌, lit<, eq-eqb}
+use Rattle.std.proofs.Common.{◌≡◌, ℕ, ◌<◌, true, cond, ◌&&◌, eqb, List, ◌++◌, length, get_or, Some, None, Ok, Err, Option, sym, refl, ap, ◌∙◌, lit<, eq-eqb}
 use Rattle.octets.specs.Big.{be}
 use Rattle.octets.specs.Parts.{part}
 use Rattle.stores.specs.Sizes.{image_size}

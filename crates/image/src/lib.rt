@@ -1,4 +1,6 @@
 // The image: all that a card keeps between commands.
+#![tactic(auto)]
+
 pub mod fields;
 pub mod flaws;
 pub mod personal;

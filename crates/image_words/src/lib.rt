@@ -1,4 +1,6 @@
 // An image in words, a line for each record.
+#![tactic(auto)]
+
 use image::{Image, LastAnswer, Mark};
 use ledger::Row;
 use std::fmt;

@@ -1,4 +1,6 @@
 // Invoices in signing bodies, the measures that count them, and tallies of sales and refunds.
+#![tactic(auto)]
+
 mod stored;
 pub mod stored_money;
 pub mod stored_number;

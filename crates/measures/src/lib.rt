@@ -1,4 +1,6 @@
 // Invoices in signing bodies, and the measures that count them.
+#![tactic(auto)]
+
 mod categories;
 pub mod identifiers;
 pub mod invoices;

@@ -1,4 +1,6 @@
 // The emulated fiscal card on the command line.
+#![tactic(auto)]
+
 use std::env;
 use std::io::{BufRead, BufReader};
 

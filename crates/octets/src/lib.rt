@@ -1,4 +1,6 @@
 // Numbers of several bytes, the highest byte first, and copies into a part of a buffer.
+#![tactic(auto)]
+
 ghost use Rattle.std.specs.Prelude.{◌≡◌, ℕ, ◌+◌, ◌-◌, ◌*◌, ◌^◌, ◌<◌, ◌≤◌, true, length, Some, nat_le};
 ghost use Rattle.octets.specs.Big.{be, big, number_read, writable, number_written};
 ghost use Rattle.octets.specs.Parts.{inside, overwritten, copied};

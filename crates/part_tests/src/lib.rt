@@ -1,3 +1,5 @@
+#![tactic(auto)]
+
 // Examples of the parts of a card, with known outcomes, run as tests.
 #[cfg(test)]
 mod images;

@@ -1,4 +1,6 @@
 // Sealers: what covers a block and seals a message.
+#![tactic(auto)]
+
 pub mod bench;
 pub mod recorded;
 pub mod rules;

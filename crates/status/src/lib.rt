@@ -1,4 +1,6 @@
 // How calls answer: status words of the card, and numbers with which a call refuses.
+#![tactic(auto)]
+
 pub mod errors;
 pub mod words;
 

@@ -1,4 +1,6 @@
 // Stores of a card's image: what a store means, the flat store and the tape store.
+#![tactic(auto)]
+
 pub mod flat;
 pub mod store;
 pub mod tape;

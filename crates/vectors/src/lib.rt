@@ -1,3 +1,5 @@
+#![tactic(auto)]
+
 // Examples with known outcomes, run as tests.
 #[cfg(test)]
 mod commands;

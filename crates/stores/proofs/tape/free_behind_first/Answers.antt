@@ -1,4 +1,4 @@
-use Rattle.std.proofs.Common.{◌-◌, refl, arith}
+use Rattle.std.proofs.Common.{refl, arith}
 use Rattle.stores.specs.Tape.{freed}
 use Rattle.stores.proofs.Layings.{freed_more}
 use Rattle.stores.proofs.tape.free_behind_first.Goals as goal

@@ -1,4 +1,4 @@
-use Rattle.std.proofs.Common.{◌≡◌, ◌-◌, ◌≤◌, length, ap, ◌∙◌, arith}
+use Rattle.std.proofs.Common.{◌≡◌, ◌≤◌, length, ap, ◌∙◌, arith}
 use Rattle.stores.specs.Sizes.{image_size, record_size}
 use Rattle.stores.specs.Tape.{tape_image, tape_left}
 use Rattle.stores.proofs.Layings.{laid_as, image_laid, left_laid}
