@@ -1,7 +1,7 @@
 // Which bodies a command takes.
 ghost use Rattle.std.specs.Prelude.{◌≡◌};
 ghost use Rattle.host.specs.Building.{body_fault};
-ghost use Rattle.host.specs.declared.forms.Body.TheVariants.{Invoice as invoice-rule};
+ghost use Rattle.host.specs.declared.forms.Body.TheVariants.{Invoice as invoice_rule};
 
 use crate::faults::BuildFault;
 use crate::forms::Body;
@@ -25,7 +25,7 @@ pub(crate) fn fault_of(rule: Body, body: &[u8]) -> Option<BuildFault>
 
 // What is wrong with a signing body, by the check that the card makes.
 fn invoice_fault(body: &[u8]) -> Option<BuildFault>
-    ensures { result ≡ body_fault invoice-rule body.now }
+    ensures { result ≡ body_fault invoice_rule body.now }
 {
     if !is_signing_length(body.len()) {
         return Some(BuildFault::WrongBodyLength);

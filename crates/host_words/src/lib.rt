@@ -1,8 +1,8 @@
 // What the host side builds and reads, in words.
 #![tactic(auto)]
 
-pub mod answers;
+pub mod answer_words;
 pub mod commands;
 
-pub use answers::AnswerWords;
+pub use answer_words::AnswerWords;
 pub use commands::{BuildWords, CommandWords, Hex};

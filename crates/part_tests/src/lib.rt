@@ -4,10 +4,10 @@
 #[cfg(test)]
 mod images;
 #[cfg(test)]
-mod sealers;
+mod sealing;
 #[cfg(test)]
 mod shared;
 #[cfg(test)]
-mod stores;
+mod storing;
 #[cfg(test)]
 mod tallies;

@@ -5,7 +5,7 @@ use Rattle.std.proofs.lemmas.List.FromFn.{length-map-range_with_len}
 use Rattle.std.proofs.lemmas.List.{length-take-le}
 use Rattle.std.proofs.lemmas.Slice.Eq.{bytes_eq-Decides}
 use Rattle.std.proofs.lemmas.Bool.{and_parts}
-use Rattle.std.specs.List.{AllByRecursion as All}
+use Rattle.std.specs.List.{AllByRecursion}
 use Rattle.std.specs.Str.{bytes_eq}
 use Rattle.octets.proofs.Pieces.{length-part}
 use Rattle.sealers.specs.declared.recorded.Kind.{Kind}
@@ -90,12 +90,12 @@ fair_first [] = tt
 fair_first (byte ∷ bs) = fair_if (kind_of byte) bs (fair_kind byte)
 
 -- an entry that has them, and those behind it that do
-fair_on : (behind : List ℕ → List Entry) (o : Option Entry) → Given Fair o → ((rest : List ℕ) → All Fair (behind rest)) → All Fair (read_on behind o)
+fair_on : (behind : List ℕ → List Entry) (o : Option Entry) → Given Fair o → ((rest : List ℕ) → AllByRecursion Fair (behind rest)) → AllByRecursion Fair (read_on behind o)
 fair_on behind (Some e) h f = (h, f e.rest)
 fair_on behind None h f = tt
 
 -- all entries of a deck have them
-fair_entries : (n : ℕ) (deck : List ℕ) → All Fair (first_entries n deck)
+fair_entries : (n : ℕ) (deck : List ℕ) → AllByRecursion Fair (first_entries n deck)
 unfolding first_entries
 fair_entries zero deck = tt
 fair_entries (suc n) deck = fair_on (λ rest. first_entries n rest) (first_entry deck) (fair_first deck) (λ rest. fair_entries n rest)
@@ -121,7 +121,7 @@ sized_by r m e h t =
     record { takes = λ c. ap length (sym same) ∙ h.message (rule ∙ c); gives = h.answer }
 
 -- so does the first answer
-sized_in : (r : Rule) (m : List ℕ) (es : List Entry) → All Fair es → Given (Sized r m) (first_answer r m es)
+sized_in : (r : Rule) (m : List ℕ) (es : List Entry) → AllByRecursion Fair es → Given (Sized r m) (first_answer r m es)
 sized_in r m [] h = tt
 sized_in r m (e ∷ es) h =
     by_cond (Given (Sized r m)) (answers r m e) (Some e.answer) (first_answer r m es) (λ t. sized_by r m e h.0 t) (λ _. sized_in r m es h.1)
