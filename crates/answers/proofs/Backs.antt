@@ -1,5 +1,5 @@
 -- Checking an answer is the way back from answering.
-use Rattle.std.proofs.Common.{◌≡◌, ℕ, ◌+◌, ◌-◌, ◌*◌, ◌/◌, ◌%◌, ◌≤◌, Bool, true, false, cond, leb, List, [], ◌∷◌, ◌++◌, length, get_or, take, drop, Some, None, Ok, Err, Option, Result, sym, refl, ap, ◌∙◌, mod-eq_of_lt, arith}
+use Rattle.std.proofs.Common.{◌≡◌, ℕ, ◌+◌, ◌-◌, ◌*◌, ◌/◌, ◌%◌, ◌≤◌, Bool, true, cond, leb, List, [], ◌∷◌, ◌++◌, length, get_or, take, drop, Some, None, Ok, Err, Option, Result, sym, refl, ap, ◌∙◌, mod-eq_of_lt, arith}
 use lib.Arith.{digits_div, digits_mod}
 use Rattle.std.proofs.lemmas.List.{length-append, length-take-le, get_or_at, get_or-append-add, take_at, take-append-drop, drop_more, drop_all}
 use Rattle.std.proofs.lemmas.Bool.{leb-true}
@@ -7,12 +7,11 @@ use Rattle.std.proofs.lemmas.Bool.Decides.{nat_tests}
 use Rattle.apdu.specs.declared.kinds.Kind.{Kind}
 use Rattle.octets.specs.Big.{be}
 use Rattle.status.specs.declared.words.StatusWord.{StatusWord}
-use Rattle.status.specs.Words.{word_value}
+use Rattle.status.specs.Words.{all_words, word_in, word_value, word_known}
 use Rattle.answers.proofs.Joins.{Bytes}
 use Rattle.answers.specs.declared.faults.AnswerFault.{AnswerFault}
 use Rattle.answers.specs.declared.faults.AnswerFault.TheVariants.{NoStatusWord}
 use Rattle.answers.specs.Lengths.{data_length}
-use Rattle.answers.specs.Known.{word_in, word_known, known_words}
 use Rattle.answers.specs.Checking.{last_two, data_of, judged, judged_known, examined_as}
 use Rattle.answers.specs.Answered.{answer_bytes, data_beside, WayBack}
 
@@ -75,8 +74,7 @@ last_bytes r n len small =
 
 -- what is read as a word is such an answer
 only-long : (t : Bool) (x : Result StatusWord AnswerFault) (w : StatusWord) → cond t x (Err NoStatusWord) ≡ Ok w → (t ≡ true) × (x ≡ Ok w)
-only-long true x w is = (refl, is)
-only-long false x w is = grind arith
+only-long t x w is = grind arith
 
 only_read : (o : Option ℕ) (r : List ℕ) (w : StatusWord) → Bytes r → examined_as o r ≡ Ok w →
     (data_beside w o ≡ Some (length (data_of r))) × (r ≡ answer_bytes (data_of r) w)
@@ -86,7 +84,7 @@ only_read (Some n) r w small is =
     let long = only-long (leb 2 (length r)) (judged_known n k (word_known (last_two r))) w is in
     let two : 2 ≤ length r = leb-true 2 (length r) long.0 in
     let fair = only-good n k (word_known (last_two r)) w long.1 in
-    let value : last_two r ≡ word_value w = sym (word_only known_words (last_two r) w fair.0) in
+    let value : last_two r ≡ word_value w = sym (word_only all_words (last_two r) w fair.0) in
     let size : k ≡ length (data_of r) = sym (length-take-le k r (omega arith)) in
     (fair.1 ∙ ap (λ m. Some m) size, sym (last_bytes r k (omega arith) small) ∙ ap (λ v. take k r ++ be 2 v) value)
 

@@ -1,16 +1,16 @@
 -- The fields of an answer, one after the other, are the answer.
-use Rattle.std.proofs.Common.{◌≡◌, ℕ, ◌+◌, ◌<◌, ◌≤◌, List, ◌∷◌, ◌++◌, length, get_or, drop, Some, sym, refl, ap, ◌∙◌, arith}
+use Rattle.std.proofs.Common.{◌≡◌, ℕ, ◌+◌, ◌<◌, ◌≤◌, List, ◌∷◌, ◌++◌, length, get_or, drop, Some, None, Option, sym, refl, ap, ◌∙◌, arith}
 use Rattle.std.proofs.ByRecursion.{All-from_get_or}
 use Rattle.std.proofs.lemmas.List.{length-drop, get_or-drop, get_or-take, take_all, take-append-drop, drop-drop, drop_more}
 use Rattle.std.proofs.lemmas.Bool.Decides.{nat_tests}
 use Rattle.std.specs.Int.Digits.{AllBelowBase}
 use Rattle.octets.specs.Big.{be, big}
 use Rattle.octets.specs.Parts.{part}
-use Rattle.octets.proofs.Bigs.{be-big}
+use Rattle.octets.proofs.Bigs.{be-big_of}
 use Rattle.octets.proofs.Pieces.{length-part}
 use Rattle.measures.specs.declared.invoices.Transaction.{Transaction}
-use Rattle.measures.specs.Bodies.{transaction_byte}
-use Rattle.answers.specs.Fields.{Signed, signed_bytes, transaction_said, signed_in, amounts_in, amounts_bytes}
+use Rattle.measures.specs.Bodies.{transaction_byte, transaction_said}
+use Rattle.answers.specs.Fields.{Signed, signed_bytes, signed_in, signed_as, signed_read, amounts_in, amounts_bytes}
 
 -- bytes that are below 256
 abbrev pub Bytes : List ℕ → Type 0
@@ -30,7 +30,7 @@ number a n bs h small =
     let p : List ℕ = part a n bs in
     let len : length p ≡ n = length-part a n bs h in
     let under : AllBelowBase 256 p = All-from_get_or (λ d. d < 256) p 0 (λ i k. let j : i < n = omega arith in rw (get_or-take, get_or-drop) (small (a + i) (omega arith))) in
-    ap (λ k. be k (big p)) (sym len) ∙ be-big p under
+    be-big_of n p len under
 
 -- the same, and what follows it
 number_cut : (a n b : ℕ) (bs rest : List ℕ) → a + n ≡ b → b ≤ length bs → Bytes bs → rest ≡ drop b bs → be n (big (part a n bs)) ++ rest ≡ drop a bs
@@ -44,8 +44,8 @@ byte_cut a b bs rest x e h is r = ap (λ y. y ∷ rest) is ∙ ap (λ l. get_or 
 byte_said : (b : ℕ) (t : Transaction) → transaction_said b ≡ Some t → transaction_byte t ≡ b
 byte_said b t is = grind (arith, nat_tests)
 
-signed-joined : (bs : List ℕ) (t : Transaction) → length bs ≡ 577 → Bytes bs → transaction_said (get_or bs 49 0) ≡ Some t → signed_bytes (signed_in bs t) ≡ bs
-signed-joined bs t len small is =
+signed_joined : (bs : List ℕ) (t : Transaction) → length bs ≡ 577 → Bytes bs → transaction_said (get_or bs 49 0) ≡ Some t → signed_bytes (signed_in bs t) ≡ bs
+signed_joined bs t len small is =
     let seal = end 321 256 bs (omega arith) in
     let block = cut 65 256 321 bs _ refl seal in
     let total = number_cut 61 4 65 bs _ refl (omega arith) small block in
@@ -57,9 +57,13 @@ signed-joined bs t len small is =
     let taxpayer = cut 8 20 28 bs _ refl buyer in
     cut 0 8 8 bs _ refl taxpayer
 
--- the same of what was read as such fields
-pub signed_back : (bs : List ℕ) (t : Transaction) (x s : Signed) → length bs ≡ 577 → Bytes bs → transaction_said (get_or bs 49 0) ≡ Some t → x ≡ signed_in bs t → Some x ≡ Some s → signed_bytes s ≡ bs
-signed_back bs t x s len small is e r = let same : s ≡ signed_in bs t = cc in ap signed_bytes same ∙ signed-joined bs t len small is
+-- what is read from bytes is written as they are
+signed_as_back : (bs : List ℕ) (o : Option Transaction) (s : Signed) → length bs ≡ 577 → Bytes bs → o ≡ transaction_said (get_or bs 49 0) → signed_as bs o ≡ Some s → signed_bytes s ≡ bs
+signed_as_back bs None s len small is e = grind arith
+signed_as_back bs (Some t) s len small is e = let same : signed_in bs t ≡ s = cc in ap signed_bytes (sym same) ∙ signed_joined bs t len small (sym is)
+
+pub signed_back : (bs : List ℕ) (s : Signed) → Bytes bs → signed_read bs ≡ Some s → signed_bytes s ≡ bs
+signed_back bs s small e = grind (arith, nat_tests, signed_as_back)
 
 pub amounts_joined : (bs : List ℕ) → length bs ≡ 14 → Bytes bs → amounts_bytes (amounts_in bs) ≡ bs
 amounts_joined bs len small = number_cut 0 7 7 bs _ refl (omega arith) small (number 7 7 bs (omega arith) small ∙ end 7 7 bs (omega arith))

@@ -1,13 +1,15 @@
 -- Checking an answer: its status word, or why it is none, and its data.
 use Rattle.std.specs.Prelude.{ℕ, ◌+◌, ◌-◌, ◌*◌, cond, List, length, take, Some, None, Ok, Err, Option, Result, ◌==◌, nat_le, slice_index}
+use Rattle.std.specs.Result.{result_map_both}
 use Rattle.apdu.specs.Kinds.{kind_named}
 use Rattle.status.specs.declared.errors.CallError.{CallError}
 use Rattle.status.specs.declared.words.StatusWord.{StatusWord}
+use Rattle.status.specs.Words.{word_known}
 use Rattle.answers.specs.declared.faults.AnswerFault.{AnswerFault}
 use Rattle.answers.specs.declared.faults.AnswerFault.TheVariants.{UnknownInstruction, NoStatusWord, UnknownStatusWord, WrongDataLength, DataWithRefusal}
 use Rattle.answers.specs.Sizes.{word_size}
 use Rattle.answers.specs.Lengths.{data_length}
-use Rattle.answers.specs.Known.{word_known, accepts}
+use Rattle.answers.specs.Known.{accepts}
 use Rattle.answers.specs.Faults.{refusal_of}
 
 -- the last two bytes as a number
@@ -41,8 +43,7 @@ examined i r = examined_as (data_length (kind_named i)) r
 
 -- the same, where a fault is its refusal
 abbrev pub refused : Result StatusWord AnswerFault → Result StatusWord CallError
-refused (Ok w) = Ok w
-refused (Err f) = Err (refusal_of f)
+refused r = result_map_both (λ w. w) refusal_of r
 
 abbrev pub checked : ℕ → List ℕ → Result StatusWord CallError
 checked i r = refused (examined i r)

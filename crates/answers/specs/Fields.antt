@@ -3,8 +3,7 @@ use Rattle.std.specs.Prelude.{ℕ, cond, List, ◌∷◌, ◌++◌, length, Some
 use Rattle.octets.specs.Big.{be, big}
 use Rattle.octets.specs.Parts.{part}
 use Rattle.measures.specs.declared.invoices.Transaction.{Transaction}
-use Rattle.measures.specs.declared.invoices.Transaction.TheVariants.{Sale, Refund}
-use Rattle.measures.specs.Bodies.{transaction_byte}
+use Rattle.measures.specs.Bodies.{transaction_byte, transaction_said}
 use Rattle.measures.specs.Sizes.{amount_size, number_size, identifier_size, taxpayer_at, buyer_at, type_at, transaction_at, amount_at}
 use Rattle.sealers.specs.Sizes.{block_size, answer_size}
 use Rattle.answers.specs.declared.fields.AmountsAnswer.{AmountsAnswer}
@@ -52,10 +51,6 @@ signed_bytes s =
     ++ (be number_size s.total_counter
     ++ (s.block
     ++ s.seal)))))))
-
--- the transaction that a byte says; none above 1
-abbrev pub transaction_said : ℕ → Option Transaction
-transaction_said b = cond (b == 0) (Some Sale) (cond (b == 1) (Some Refund) None)
 
 -- the fields in a signing answer of this transaction
 abbrev pub signed_in : List ℕ → Transaction → Signed

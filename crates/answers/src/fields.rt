@@ -1,18 +1,20 @@
 // The fields of a signing answer and of an answer of amounts, for those who reconcile.
-ghost use Rattle.std.specs.Prelude.{◌≡◌, ◌+◌, ◌≤◌, length, Some, slice_index};
+ghost use Rattle.std.specs.Prelude.{◌≡◌, ◌+◌, ◌≤◌, Some, slice_index};
 ghost use Rattle.std.specs.Option.{option_map};
 ghost use Rattle.octets.specs.Big.{big};
 ghost use Rattle.octets.specs.Parts.{part};
-ghost use Rattle.measures.specs.Sizes.{amount_size, number_size, transaction_at};
-ghost use Rattle.answers.specs.Sizes.{amounts_size, signed_size};
-ghost use Rattle.answers.specs.Fields.{Signed, signed, signed_bytes, transaction_said, signed_in, signed_as, signed_read, amounts_in, amounts_bytes, amounts_read};
+ghost use Rattle.measures.specs.Bodies.{transaction_said};
+ghost use Rattle.measures.specs.Sizes.{number_size, transaction_at};
+ghost use Rattle.answers.specs.Sizes.{signed_size};
+ghost use Rattle.answers.specs.Fields.{Signed, signed, signed_bytes, signed_in, signed_as, signed_read, amounts_in, amounts_bytes, amounts_read};
 
-use crate::sizes::{AMOUNT_SIZE, AMOUNTS_SIZE, BLOCK_AT, SEAL_AT, SIDE_AT, SIGNED_SIZE, TOTAL_AT};
+use crate::sizes::{AMOUNTS_SIZE, BLOCK_AT, SEAL_AT, SIDE_AT, SIGNED_SIZE, TOTAL_AT};
 use measures::Transaction;
-use measures::sizes::{AMOUNT_AT, BUYER_AT, NUMBER_SIZE, TAXPAYER_AT, TRANSACTION_AT, TYPE_AT};
+use measures::sizes::{AMOUNT_AT, AMOUNT_SIZE, BUYER_AT, TAXPAYER_AT, TRANSACTION_AT, TYPE_AT};
 use octets::read_be;
 
-// What the data of an accepted signing, or of the last answer, says.
+// What the data of an accepted signing, or of the last answer, says. Slices: as an array each would need an `unwrap` of a
+// part whose length is known.
 #[derive(Clone, Copy)]
 pub struct SignedAnswer<'a> {
     pub date: &'a [u8],
@@ -33,10 +35,7 @@ impl<'a> SignedAnswer<'a> {
         ensures value { option_map signed result ≡ signed_read bytes.now }
         ensures back { (s : Signed) → option_map signed result ≡ Some s → signed_bytes s ≡ bytes.now }
     {
-        if bytes.len() != SIGNED_SIZE {
-            return None;
-        }
-        signed_sized(bytes)
+        signed_of(bytes)
     }
 }
 
@@ -53,87 +52,52 @@ impl AmountsAnswer {
         ensures value { result ≡ amounts_read bytes.now }
         ensures back { (a : AmountsAnswer) → result ≡ Some a → amounts_bytes a ≡ bytes.now }
     {
-        if bytes.len() != AMOUNTS_SIZE {
-            return None;
-        }
-        Some(amounts_sized(bytes))
+        Some(amounts_in(bytes.as_array()?))
     }
 }
 
-// The fields of data of the right length, which are all of it.
-fn signed_sized(bytes: &[u8]) -> Option<SignedAnswer<'_>>
-    requires { length bytes.now ≡ signed_size }
-    ensures value { option_map signed result ≡ signed_as bytes.now (transaction_said (slice_index bytes.now transaction_at)) }
-    ensures back { (s : Signed) → option_map signed result ≡ Some s → signed_bytes s ≡ bytes.now }
+// The first clause of `read`, by itself: its second follows from it.
+fn signed_of(bytes: &[u8]) -> Option<SignedAnswer<'_>>
+    ensures { option_map signed result ≡ signed_read bytes.now }
 {
-    match transaction_of(bytes[TRANSACTION_AT]) {
-        Some(transaction) => Some(signed_in(bytes, transaction)),
-        None => None,
-    }
+    signed_in(bytes.as_array()?)
 }
 
-// The amounts in data of the right length, which are all of it.
-fn amounts_sized(bytes: &[u8]) -> AmountsAnswer
-    requires { length bytes.now ≡ amounts_size }
-    ensures value { result ≡ amounts_in bytes.now }
-    ensures back { amounts_bytes result ≡ bytes.now }
+// The fields in data of the right length; none with a transaction above 1.
+fn signed_in(bytes: &[u8; SIGNED_SIZE]) -> Option<SignedAnswer<'_>>
+    ensures { option_map signed result ≡ signed_as bytes.now (transaction_said (slice_index bytes.now transaction_at)) }
 {
-    amounts_in(bytes)
-}
-
-// The transaction that a byte says; none above 1.
-fn transaction_of(byte: u8) -> Option<Transaction>
-    ensures { result ≡ transaction_said byte }
-{
-    match byte {
-        0 => Some(Transaction::Sale),
-        1 => Some(Transaction::Refund),
-        _ => None,
-    }
-}
-
-// The fields in a signing answer's data of this transaction.
-fn signed_in(bytes: &[u8], transaction: Transaction) -> SignedAnswer<'_>
-    requires { length bytes.now ≡ signed_size }
-    ensures { signed result ≡ signed_in bytes.now transaction }
-{
-    SignedAnswer {
-        date: &bytes[0..TAXPAYER_AT],
+    Some(SignedAnswer {
+        date: &bytes[..TAXPAYER_AT],
         taxpayer: &bytes[TAXPAYER_AT..BUYER_AT],
         buyer: &bytes[BUYER_AT..TYPE_AT],
         type_code: bytes[TYPE_AT],
-        transaction,
-        amount: amount_at(bytes, AMOUNT_AT),
+        transaction: Transaction::try_from(bytes[TRANSACTION_AT]).ok()?,
+        amount: read_be(&bytes[AMOUNT_AT..SIDE_AT]).unwrap(),
         side_counter: counter_at(bytes, SIDE_AT),
         total_counter: counter_at(bytes, TOTAL_AT),
         block: &bytes[BLOCK_AT..SEAL_AT],
-        seal: &bytes[SEAL_AT..SIGNED_SIZE],
-    }
+        seal: &bytes[SEAL_AT..],
+    })
 }
 
-// The amounts in an amounts answer's data.
-fn amounts_in(bytes: &[u8]) -> AmountsAnswer
-    requires { length bytes.now ≡ amounts_size }
-    ensures { result ≡ amounts_in bytes.now }
-{
-    AmountsAnswer {
-        unaudited: amount_at(bytes, 0),
-        limit: amount_at(bytes, AMOUNT_SIZE),
-    }
-}
-
-// The amount that begins at a byte.
-fn amount_at(bytes: &[u8], at: usize) -> u64
-    requires { at + amount_size ≤ length bytes.now }
-    ensures { result ≡ big (part at amount_size bytes.now) }
-{
-    read_be(&bytes[at..at + AMOUNT_SIZE]).unwrap()
-}
-
-// The counter that begins at a byte.
-fn counter_at(bytes: &[u8], at: usize) -> u32
-    requires { at + number_size ≤ length bytes.now }
+// The counter in the bytes from a place on, as the fields of an image are read: one for both would be a public function
+// that asks for room.
+fn counter_at(bytes: &[u8; SIGNED_SIZE], at: usize) -> u32
+    requires { at + number_size ≤ signed_size }
     ensures { result ≡ big (part at number_size bytes.now) }
 {
-    read_be(&bytes[at..at + NUMBER_SIZE]).unwrap() as u32
+    u32::from_be_bytes(*bytes[at..].first_chunk().unwrap())
+}
+
+// The amounts in an amounts answer's data, which are all of it.
+#[tactic(auto, using(crate::proofs::Joins::amounts_joined))]
+fn amounts_in(bytes: &[u8; AMOUNTS_SIZE]) -> AmountsAnswer
+    ensures value { result ≡ amounts_in bytes.now }
+    ensures back { amounts_bytes result ≡ bytes.now }
+{
+    AmountsAnswer {
+        unaudited: read_be(&bytes[..AMOUNT_SIZE]).unwrap(),
+        limit: read_be(&bytes[AMOUNT_SIZE..]).unwrap(),
+    }
 }

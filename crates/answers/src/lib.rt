@@ -4,7 +4,6 @@
 pub mod checking;
 pub mod faults;
 pub mod fields;
-mod known;
 pub mod lengths;
 pub mod sizes;
 

@@ -1,5 +1,5 @@
 // The sizes of what the commands answer, and where the fields of an answer begin.
-use measures::sizes::{COUNT_AT, NUMBER_SIZE, TAXPAYER_AT};
+use measures::sizes::{AMOUNT_SIZE, COUNT_AT, NUMBER_SIZE, TAXPAYER_AT};
 use sealers::{ANSWER_SIZE, BLOCK_SIZE};
 
 // The bytes of a status word.
@@ -12,8 +12,6 @@ pub const VERSION_SIZE: usize = 3 * NUMBER_SIZE;
 pub const TRIES_SIZE: usize = 1;
 
 // An answer of amounts: the unaudited amount and its limit.
-pub(crate) const AMOUNT_SIZE: usize = 7;
-
 pub const AMOUNTS_SIZE: usize = 2 * AMOUNT_SIZE;
 
 // A signing answer: the fields of the body before its count, the counter of the side, the total counter, the covered

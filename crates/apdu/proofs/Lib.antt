@@ -1,3 +1,3 @@
-mod Cuts
-mod Only
+pub mod Narrow
+pub mod Only
 pub mod Written

@@ -3,7 +3,7 @@ use Rattle.std.specs.Prelude.{◌≡◌, ℕ, ◌^◌, ◌<◌, ◌≤◌, List,
 use Rattle.octets.specs.Big.{be}
 use Rattle.apdu.specs.declared.commands.Header.{Header}
 use Rattle.apdu.specs.Kinds.{kind_of}
-use Rattle.apdu.specs.Reading.{Reading, parsed}
+use Rattle.apdu.specs.Reading.{Reading, BodyLiesIn, parsed}
 
 -- lengths take one byte, or two behind a byte `00`
 pub data Width : Type 0 where
@@ -75,7 +75,8 @@ le_of (with_both w b e) = Some e
 abbrev pub said : Header → Writing → Reading
 said h t = record { kind = kind_of h.class h.instruction; header = h; body = body_of t; place = place_of t; le = le_of t }
 
--- bytes that are written in a form are read as what they say, and only such bytes are a command
+-- bytes that are written in a form are read as what they say, only such bytes are a command, and its body lies in them
 pub record WayBack (bs : List ℕ) : Type 0 where
   pub reads : (h : Header) (t : Writing) → Allowed t → bs ≡ written h t → parsed bs ≡ Ok (said h t)
   pub only : (x : Reading) → parsed bs ≡ Ok x → (h : Header) × ((t : Writing) × (Allowed t × ((bs ≡ written h t) × (x ≡ said h t))))
+  pub lies : (x : Reading) → parsed bs ≡ Ok x → BodyLiesIn bs x

@@ -1,6 +1,6 @@
 // A command that was read: its kind, its header, its body with the place of that, and Le.
 ghost use Rattle.std.specs.Prelude.{◌≡◌};
-ghost use Rattle.apdu.specs.Reading.{command_read, request_read, read_as};
+ghost use Rattle.apdu.specs.Reading.{header_of, header_bytes, command_read, request_read, read_as};
 
 use crate::kinds::Kind;
 
@@ -10,6 +10,29 @@ pub struct Header {
     pub instruction: u8,
     pub p1: u8,
     pub p2: u8,
+}
+
+// The header in four bytes.
+impl From<[u8; 4]> for Header {
+    ghost from_gives = { λ bs h. h ≡ header_of bs };
+
+    fn from([class, instruction, p1, p2]: [u8; 4]) -> Header {
+        Header {
+            class,
+            instruction,
+            p1,
+            p2,
+        }
+    }
+}
+
+// The bytes of a header.
+impl From<Header> for [u8; 4] {
+    ghost from_gives = { λ h bs. bs ≡ header_bytes h };
+
+    fn from(header: Header) -> [u8; 4] {
+        [header.class, header.instruction, header.p1, header.p2]
+    }
 }
 
 // What every command says: `place` is the offset of the body in the command, and `le` the most data that the sender
@@ -22,6 +45,8 @@ pub struct Request<'a> {
     pub le: Option<u32>,
 }
 
+// A kind with what the command says: an enum whose cases borrow the body, by a rule of the project; `Kind` is the same
+// without what is said.
 #[derive(Clone, Copy)]
 pub enum Command<'a> {
     Select(Request<'a>),
@@ -36,11 +61,11 @@ pub enum Command<'a> {
     Other(Request<'a>),
 }
 
-impl<'a> Command<'a> {
-    // The command that a request is, by its class and instruction.
-    pub fn of(request: Request<'a>) -> Command<'a>
-        ensures { command_read result ≡ request_read request.entry }
-    {
+// The command that a request is, by its class and instruction.
+impl<'a> From<Request<'a>> for Command<'a> {
+    ghost from_gives = { λ r c. command_read c ≡ request_read r };
+
+    fn from(request: Request<'a>) -> Command<'a> {
         match Kind::of(request.header.class, request.header.instruction) {
             Kind::Select => Command::Select(request),
             Kind::Version => Command::Version(request),
@@ -54,7 +79,9 @@ impl<'a> Command<'a> {
             Kind::Other => Command::Other(request),
         }
     }
+}
 
+impl<'a> Command<'a> {
     // The kind of the command.
     pub fn kind(&self) -> Kind
         ensures { result ≡ (command_read self.now).kind }

@@ -3,6 +3,7 @@ ghost use Rattle.std.specs.Prelude.{◌≡◌, Some};
 ghost use Rattle.apdu.specs.Faults.{refusal_of, fault_name};
 
 use status::CallError;
+use std::error::Error;
 use std::fmt;
 
 #[derive(Clone, Copy, PartialEq, Eq, Debug)]
@@ -15,26 +16,12 @@ pub enum Fault {
     TrailingBytes,
 }
 
-impl Fault {
-    // The refusal of a call that cannot read its bytes.
-    pub fn refusal(self) -> CallError
-        ensures { result ≡ refusal_of self }
-    {
-        CallError::Unreadable
-    }
+// The refusal of a call that cannot read its bytes.
+impl From<Fault> for CallError {
+    ghost from_gives = { λ f e. e ≡ refusal_of f };
 
-    // What is wrong with the bytes.
-    fn name(self) -> &'static str
-        ensures { result.now ≡ fault_name self }
-    {
-        match self {
-            Fault::NoHeader => "fewer than four bytes",
-            Fault::HalfLength => "half of an extended length",
-            Fault::EmptyBody => "an extended Lc of 0 before a body",
-            Fault::CutBody => "fewer body bytes than Lc says",
-            Fault::HalfLe => "half of an extended Le",
-            Fault::TrailingBytes => "more behind the body than an Le",
-        }
+    fn from(_fault: Fault) -> CallError {
+        CallError::Unreadable
     }
 }
 
@@ -42,6 +29,15 @@ impl fmt::Display for Fault {
     ghost output = { λ x. Some (fault_name x) };
 
     fn fmt<W: fmt::Write>(&self, f: &mut fmt::Formatter<W>) -> fmt::Result {
-        fmt::Display::fmt(&self.name(), f)
+        f.pad(match self {
+            Fault::NoHeader => "fewer than four bytes",
+            Fault::HalfLength => "half of an extended length",
+            Fault::EmptyBody => "an extended Lc of 0 before a body",
+            Fault::CutBody => "fewer body bytes than Lc says",
+            Fault::HalfLe => "half of an extended Le",
+            Fault::TrailingBytes => "more behind the body than an Le",
+        })
     }
 }
+
+impl Error for Fault {}

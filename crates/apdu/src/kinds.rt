@@ -46,12 +46,13 @@ impl Kind {
             kind => kind,
         }
     }
+}
 
-    // The name of the kind.
-    fn name(self) -> &'static str
-        ensures { result.now ≡ kind_name self }
-    {
-        match self {
+impl fmt::Display for Kind {
+    ghost output = { λ k. Some (kind_name k) };
+
+    fn fmt<W: fmt::Write>(&self, f: &mut fmt::Formatter<W>) -> fmt::Result {
+        f.pad(match self {
             Kind::Select => "select",
             Kind::Version => "version",
             Kind::Tries => "tries",
@@ -62,14 +63,6 @@ impl Kind {
             Kind::Export => "export",
             Kind::Directive => "directive",
             Kind::Other => "other",
-        }
-    }
-}
-
-impl fmt::Display for Kind {
-    ghost output = { λ k. Some (kind_name k) };
-
-    fn fmt<W: fmt::Write>(&self, f: &mut fmt::Formatter<W>) -> fmt::Result {
-        fmt::Display::fmt(&self.name(), f)
+        })
     }
 }

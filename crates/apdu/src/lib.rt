@@ -6,11 +6,10 @@ ghost use Rattle.apdu.specs.Reading.{parse_result, parsed, read_result, reading}
 ghost use Rattle.apdu.specs.Writings.{WayBack};
 
 pub mod commands;
-mod extended;
 pub mod faults;
 pub mod kinds;
 mod layout;
-mod short;
+mod lengths;
 
 pub use commands::{Command, Header, Request};
 pub use faults::Fault;
@@ -19,20 +18,17 @@ pub use status::{CallError, StatusWord};
 
 // Reads a command, or says why the bytes are none. The body of a command is a part of `bytes`, from the place that it
 // tells on. What is written in one of the seven forms is read as what it says, and only that is a command.
+#[tactic(auto, using(crate::proofs::Only::way_back))]
 pub fn parse(bytes: &[u8]) -> Result<Command<'_>, Fault>
     ensures value { parse_result result ≡ parsed bytes.now }
     ensures forms { WayBack bytes.now }
 {
-    let request = layout::request_of(bytes)?;
-    Ok(Command::of(request))
+    Ok(Command::from(layout::request_of(bytes)?))
 }
 
-// The same, where every fault is refused by one number.
+// The same, where every fault is refused by one number. Kept beside it for callers that hand on the number of a call.
 pub fn read(bytes: &[u8]) -> Result<Command<'_>, CallError>
     ensures { read_result result ≡ reading bytes.now }
 {
-    match parse(bytes) {
-        Ok(command) => Ok(command),
-        Err(fault) => Err(fault.refusal()),
-    }
+    Ok(parse(bytes)?)
 }

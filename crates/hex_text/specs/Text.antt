@@ -30,16 +30,10 @@ both high low (Some h) (Some l) = Ok (h * 16 + l)
 abbrev pub two_digits : ℕ → ℕ → Result ℕ HexError
 two_digits high low = both high low (digit_value high) (digit_value low)
 
--- what one character alone is
+-- what is wrong with a character alone
 abbrev pub alone : ℕ → Option ℕ → HexError
 alone c None = NoDigit c
 alone c (Some d) = HalfByte
-
--- the byte that a text begins with
-abbrev pub first : List ℕ → Result ℕ HexError
-first [] = Err HalfByte
-first (high ∷ []) = Err (alone high (digit_value high))
-first (high ∷ low ∷ rest) = two_digits high low
 
 -- bytes before what the rest writes
 abbrev pub before : List ℕ → Result (List ℕ) HexError → Result (List ℕ) HexError

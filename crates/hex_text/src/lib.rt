@@ -16,7 +16,7 @@ pub use errors::HexError;
 pub fn decode(heap: Global, text: &[u8]) -> Result<Vec<u8>, HexError>
     ensures { Gives result (bytes_of text.now) }
 {
-    if digits::is_dash(text) {
+    if matches!(text, [b'-']) {
         return Ok(Vec::new(heap));
     }
     decode_digits(heap, text)
@@ -27,17 +27,16 @@ fn decode_digits(heap: Global, text: &[u8]) -> Result<Vec<u8>, HexError>
     ensures { Gives result (decoded text.now) }
 {
     let mut bytes = Vec::new(heap);
-    let mut at = 0;
-    while at < text.len() {
-        if digits::is_blank(text[at]) {
-            at += 1;
-        } else {
-            let byte = digits::first_byte(&text[at..])?;
-            if bytes.push(byte).is_err() {
-                return Err(HexError::NoMemory);
+    let mut rest = text;
+    loop {
+        rest = match rest {
+            [] => return Ok(bytes),
+            [b' ' | b'\t', behind @ ..] => behind,
+            [high, low, behind @ ..] => {
+                bytes.push(digits::byte_of(*high, *low)?)?;
+                behind
             }
-            at += 2;
-        }
+            [high] => return Err(digits::alone(*high)),
+        };
     }
-    Ok(bytes)
 }

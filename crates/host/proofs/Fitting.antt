@@ -1,27 +1,25 @@
 -- Every published form takes bodies that can be written in it, and is read back.
-use Rattle.std.proofs.Common.{◌≡◌, ℕ, ◌+◌, ◌*◌, ◌≤◌, Bool, true, false, cond, eqb, leb, List, [], ◌∷◌, length, IfSome, Some, None, Ok, Option, sym, refl, ap, ◌∙◌, subst, arith, lit≤}
-use Rattle.std.proofs.lemmas.List.{take_at, take_all}
+use Rattle.std.proofs.Common.{◌≡◌, ℕ, ◌+◌, ◌*◌, ◌≤◌, Bool, true, false, cond, eqb, leb, List, [], ◌∷◌, length, take, IfSome, Some, None, Ok, Option, sym, refl, ap, ◌∙◌, subst, arith, lit≤}
 use Rattle.std.proofs.lemmas.Option.{MatchOption-at_some}
 use Rattle.std.proofs.lemmas.Bool.{and_parts, eqb-true, leb-true}
 use Rattle.std.proofs.lemmas.Bool.Decides.{nat_tests}
 use Rattle.answers.specs.Lengths.{data_length, le_enough}
-use Rattle.apdu.specs.declared.commands.Header.{Header}
 use Rattle.apdu.specs.declared.kinds.Kind.{Kind}
 use Rattle.apdu.specs.declared.kinds.Kind.TheVariants.{Select, Version, Tries, Amounts, Last, Pin, Sign, Export, Directive, Other}
 use Rattle.apdu.specs.Kinds.{kind_of}
 use Rattle.apdu.specs.Reading.{reading, refused}
-use Rattle.apdu.specs.Writings.{Width, short, long, Writing, bare, with_le, with_body, with_both, LeAllowed, Allowed, written, body_of, place_of, le_of, said}
-use Rattle.apdu.proofs.Written.{read_written}
-use Rattle.octets.specs.Big.{be}
+use Rattle.apdu.specs.Writings.{Width, short, long, Writing, with_le, LeAllowed, Allowed, written, body_of, place_of, le_of, said}
+use Rattle.apdu.proofs.Written.{read_written, lies_written}
 use Rattle.octets.specs.Parts.{part}
 use Rattle.measures.specs.Bodies.{category_count, signing_length, invoice_read}
 use Rattle.host.specs.declared.faults.BuildFault.{BuildFault}
 use Rattle.host.specs.declared.faults.BuildFault.TheVariants.{WrongBodyLength}
-use Rattle.host.specs.declared.forms.Body.TheVariants.{Sized, Invoice}
+use Rattle.host.specs.declared.bodies.Body.TheVariants.{Sized, Invoice}
 use Rattle.host.specs.declared.forms.Form.{Form}
 use Rattle.host.specs.declared.forms.Shape.{Shape}
 use Rattle.host.specs.Published.{shaped, shape_place, shape_le, published, command_in}
-use Rattle.host.specs.Building.{invoice_fault, body_fault}
+use Rattle.host.specs.Building.{invoice_fault, body_fault, unless, put_value, put_after}
+use Rattle.host.proofs.Placed.{put_back}
 use Rattle.host.specs.Back.{says, ReadBack}
 
 -- a body that a form takes: it can be written in that form, and is all of the body that is read
@@ -87,17 +85,8 @@ place_is s b = grind arith
 le_is : (s : Shape) (b : List ℕ) → le_of (shaped s b) ≡ shape_le s
 le_is s b = grind arith
 
--- the body lies at its place
-lies : (h : Header) (t : Writing) → part (place_of t) (length (body_of t)) (written h t) ≡ body_of t
-lies h bare = refl
-lies h (with_le w e) = refl
-lies h (with_body short b) = take_all (length b) b (omega arith)
-lies h (with_body long b) = take_all (length b) b (omega arith)
-lies h (with_both short b e) = take_at b (be 1 e) (length b) refl
-lies h (with_both long b e) = take_at b (be 2 e) (length b) refl
-
 -- a command is read back
-pub read_back : (k : Kind) (f : Form) (b c : List ℕ) → published k ≡ Some f → body_fault f.body b ≡ None → c ≡ command_in f b → ReadBack k b c
+read_back : (k : Kind) (f : Form) (b c : List ℕ) → published k ≡ Some f → body_fault f.body b ≡ None → c ≡ command_in f b → ReadBack k b c
 read_back k f b c is h e =
     let fit = fitting k f is in
     let t : Writing = shaped f.shape b in
@@ -112,6 +101,21 @@ read_back k f b c is h e =
       form = f;
       is_published = is;
       reads = ap reading e ∙ read ∙ ap Ok says_so;
-      lies = ap (part (shape_place f.shape) (length b)) e ∙ ap (λ p. part p (length b) (written f.header t)) (sym place) ∙ ap (λ x. part (place_of t) (length x) (written f.header t)) (sym whole) ∙ lies f.header t ∙ whole;
+      lies = ap (part (shape_place f.shape) (length b)) e ∙ ap (λ p. part p (length b) (written f.header t)) (sym place) ∙ ap (λ x. part (place_of t) (length x) (written f.header t)) (sym whole) ∙ lies_written f.header t ∙ whole;
       enough = fit.enough;
     }
+
+-- a body without a fault is taken
+clear : (o : Option BuildFault) → unless o ≡ Ok tt → o ≡ None
+clear None h = refl
+clear (Some x) h = grind arith
+
+pub allowed : (k : Kind) (f : Form) (b : List ℕ) → published k ≡ Some f → unless (body_fault f.body b) ≡ Ok tt → Allowed (shaped f.shape b)
+allowed k f b is h = let taken = (fitting k f is).taken b (clear (body_fault f.body b) h) in taken.allowed
+
+pub whole : (k : Kind) (f : Form) (b : List ℕ) → published k ≡ Some f → unless (body_fault f.body b) ≡ Ok tt → body_of (shaped f.shape b) ≡ b
+whole k f b is h = let taken = (fitting k f is).taken b (clear (body_fault f.body b) h) in taken.whole
+
+-- what was put is read back
+pub put_read_back : (k : Kind) (f : Form) (b out after : List ℕ) (n : ℕ) → published k ≡ Some f → unless (body_fault f.body b) ≡ Ok tt → put_value (command_in f b) out ≡ Ok n → after ≡ put_after (command_in f b) out → ReadBack k b (take n after)
+put_read_back k f b out after n is h v a = read_back k f b (take n after) is (clear (body_fault f.body b) h) (put_back (command_in f b) out after n v a)

@@ -1,12 +1,13 @@
 -- What building a command gives, and what it leaves in the buffer.
 use Rattle.std.specs.Prelude.{ℕ, cond, List, ◌++◌, length, drop, Some, None, Ok, Err, Option, Result, ◌==◌, nat_le}
+use Rattle.std.specs.Result.{result_map_both}
 use Rattle.apdu.specs.Kinds.{kind_named}
 use Rattle.measures.specs.Bodies.{Said, signing_length, invoice_read}
 use Rattle.status.specs.declared.errors.CallError.{CallError}
 use Rattle.host.specs.declared.faults.BuildFault.{BuildFault}
 use Rattle.host.specs.declared.faults.BuildFault.TheVariants.{UnknownInstruction, WrongBodyLength, MalformedInvoice, SmallBuffer}
-use Rattle.host.specs.declared.forms.Body.{Body}
-use Rattle.host.specs.declared.forms.Body.TheVariants.{Sized, Invoice}
+use Rattle.host.specs.declared.bodies.Body.{Body}
+use Rattle.host.specs.declared.bodies.Body.TheVariants.{Sized, Invoice}
 use Rattle.host.specs.declared.forms.Form.{Form}
 use Rattle.host.specs.Faults.{refusal_of}
 use Rattle.host.specs.Published.{published, command_in}
@@ -20,6 +21,11 @@ invoice_fault None = Some MalformedInvoice
 abbrev pub body_fault : Body → List ℕ → Option BuildFault
 body_fault (Sized n) b = cond (length b == n) None (Some WrongBodyLength)
 body_fault Invoice b = cond (signing_length (length b)) (invoice_fault (invoice_read b)) (Some WrongBodyLength)
+
+-- all is well unless there is a fault
+abbrev pub unless : Option BuildFault → Result (Unit {0}) BuildFault
+unless None = Ok tt
+unless (Some fault) = Err fault
 
 -- what putting a command at the beginning of a buffer gives: its length, or that there is no room
 abbrev pub put_value : List ℕ → List ℕ → Result ℕ BuildFault
@@ -56,8 +62,7 @@ composed_after i b out = composed_after_as (published (kind_named i)) b out
 
 -- the same result, where a fault is its refusal
 abbrev pub refused : Result ℕ BuildFault → Result ℕ CallError
-refused (Ok n) = Ok n
-refused (Err f) = Err (refusal_of f)
+refused r = result_map_both (λ n. n) refusal_of r
 
 abbrev pub built : ℕ → List ℕ → List ℕ → Result ℕ CallError
 built i b out = refused (composed i b out)

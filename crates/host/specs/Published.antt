@@ -4,8 +4,8 @@ use Rattle.apdu.specs.declared.kinds.Kind.{Kind}
 use Rattle.apdu.specs.declared.kinds.Kind.TheVariants.{Select, Version, Tries, Amounts, Last, Pin, Sign, Export, Directive, Other}
 use Rattle.apdu.specs.Reading.{header}
 use Rattle.apdu.specs.Writings.{short, long, Writing, with_le, with_body, with_both, written}
-use Rattle.host.specs.declared.forms.Body.{Body}
-use Rattle.host.specs.declared.forms.Body.TheVariants.{Sized, Invoice}
+use Rattle.host.specs.declared.bodies.Body.{Body}
+use Rattle.host.specs.declared.bodies.Body.TheVariants.{Sized, Invoice}
 use Rattle.host.specs.declared.forms.Shape.{Shape}
 use Rattle.host.specs.declared.forms.Shape.TheVariants.{ShortLe, ShortBody, ShortBoth, LongLe, LongBody, LongBoth}
 use Rattle.host.specs.declared.forms.Form.{Form}

@@ -1,37 +1,38 @@
 // Which bodies a command takes.
 ghost use Rattle.std.specs.Prelude.{◌≡◌};
-ghost use Rattle.host.specs.Building.{body_fault};
-ghost use Rattle.host.specs.declared.forms.Body.TheVariants.{Invoice as invoice_rule};
+ghost use Rattle.host.specs.Building.{body_fault, unless};
+ghost use Rattle.host.specs.declared.bodies.Body.TheVariants.{Invoice as invoice_rule};
 
 use crate::faults::BuildFault;
-use crate::forms::Body;
 use measures::{Invoice, is_signing_length};
 
-// What is wrong with a body; none where nothing is.
-pub(crate) fn fault_of(rule: Body, body: &[u8]) -> Option<BuildFault>
-    ensures { result ≡ body_fault rule body.now }
-{
-    match rule {
-        Body::Sized(len) => {
-            if body.len() == len {
-                None
-            } else {
-                Some(BuildFault::WrongBodyLength)
-            }
+// The rule of a command's bodies: all have one length, or are signing bodies by the check that the card makes.
+#[derive(Clone, Copy)]
+pub(crate) enum Body {
+    Sized(usize),
+    Invoice,
+}
+
+impl Body {
+    // Refuses a body that the rule does not take.
+    pub(crate) fn check(self, body: &[u8]) -> Result<(), BuildFault>
+        ensures { result ≡ unless (body_fault self body.now) }
+    {
+        match self {
+            Body::Sized(len) if body.len() != len => Err(BuildFault::WrongBodyLength),
+            Body::Sized(_) => Ok(()),
+            Body::Invoice => check_invoice(body),
         }
-        Body::Invoice => invoice_fault(body),
     }
 }
 
-// What is wrong with a signing body, by the check that the card makes.
-fn invoice_fault(body: &[u8]) -> Option<BuildFault>
-    ensures { result ≡ body_fault invoice_rule body.now }
+// Refuses a body that is not a signing body.
+fn check_invoice(body: &[u8]) -> Result<(), BuildFault>
+    ensures { result ≡ unless (body_fault invoice_rule body.now) }
 {
     if !is_signing_length(body.len()) {
-        return Some(BuildFault::WrongBodyLength);
+        return Err(BuildFault::WrongBodyLength);
     }
-    match Invoice::read(body) {
-        Some(_) => None,
-        None => Some(BuildFault::MalformedInvoice),
-    }
+    Invoice::read(body).ok_or(BuildFault::MalformedInvoice)?;
+    Ok(())
 }

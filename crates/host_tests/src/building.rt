@@ -1,6 +1,7 @@
 // Commands that are built, and read back.
-use crate::shared::{first, invoice, put, same};
+use crate::shared::{invoice, put, same};
 use host::{BuildFault, CallError, Kind, Request};
+use std::alloc::Global;
 use std::process::Abort;
 use std::test::Fail;
 
@@ -8,11 +9,8 @@ const NAME: &[u8] = b"\xa0\x00\x00\x07HFJI-TaxCore";
 
 // Builds a command in the first bytes of a buffer.
 fn build_in(instruction: u8, body: &[u8], out: &mut [u8], len: usize) -> Result<usize, CallError> {
-    if len <= out.len() {
-        host::build(instruction, body, &mut out[0..len])
-    } else {
-        Ok(0)
-    }
+    let place = out.get_mut(..len).ok_or(CallError::SmallBuffer)?;
+    host::build(instruction, body, place)
 }
 
 // Checks that a command is built at the beginning of so many bytes, and that all others stay.
@@ -85,24 +83,24 @@ fn directive_of_any_bytes(rt: HostRuntime) {
 }
 
 // Checks the command of an invoice with so many categories.
-fn signs(rt: &impl Abort, categories: u8, lc: u8) {
-    let body = invoice(categories);
-    let body = first(&body, usize::from(lc));
-    let mut command = [0; 163];
-    put(&mut command, 0, &[0x88, 0x13, 0x04, 0x00, 0x00, 0x00, lc]);
-    put(&mut command, 7, body);
-    builds(rt, 0x13, body, first(&command, usize::from(lc) + 9));
+fn signs(rt: &impl Abort, heap: Global, categories: u8, lc: u8) -> Result<(), Fail> {
+    let body = invoice(heap, categories)?;
+    let mut command = Vec::from_slice(heap, &[0x88, 0x13, 0x04, 0x00, 0x00, 0x00, lc])?;
+    command.extend_from_slice(&body)?;
+    command.extend_from_slice(&[0x00, 0x00])?;
+    builds(rt, 0x13, &body, &command);
+    Ok(())
 }
 
 #[test]
-fn invoices_with_none_three_and_twelve_categories(rt: HostRuntime) {
-    signs(&rt, 0, 0x3a);
-    signs(&rt, 3, 0x52);
-    signs(&rt, 12, 0x9a);
+fn invoices_with_none_three_and_twelve_categories(rt: HostRuntime) -> Result<(), Fail> {
+    signs(&rt, rt.alloc(), 0, 0x3a)?;
+    signs(&rt, rt.alloc(), 3, 0x52)?;
+    signs(&rt, rt.alloc(), 12, 0x9a)
 }
 
 #[test]
-fn bodies_of_a_wrong_length(rt: HostRuntime) {
+fn bodies_of_a_wrong_length(rt: HostRuntime) -> Result<(), Fail> {
     let wrong = BuildFault::WrongBodyLength;
     refuses(&rt, 0xa4, &[0; 15], wrong);
     refuses(&rt, 0xa4, &[0; 17], wrong);
@@ -113,31 +111,40 @@ fn bodies_of_a_wrong_length(rt: HostRuntime) {
     refuses(&rt, 0x11, b"12345", wrong);
     refuses(&rt, 0x40, &[0; 511], wrong);
     refuses(&rt, 0x40, &[0; 513], wrong);
-    let body = invoice(13);
+    let mut body = invoice(rt.alloc(), 13)?;
     refuses(&rt, 0x13, &body, wrong);
-    refuses(&rt, 0x13, first(&body, 57), wrong);
-    refuses(&rt, 0x13, first(&body, 65), wrong);
+    body.truncate(65);
+    refuses(&rt, 0x13, &body, wrong);
+    body.truncate(57);
+    refuses(&rt, 0x13, &body, wrong);
+    Ok(())
 }
 
 // Checks that an invoice with one category and this byte changed is malformed.
-fn malformed(rt: &impl Abort, at: usize, byte: u8) {
-    let mut body = invoice(1);
+fn malformed(rt: &impl Abort, heap: Global, at: usize, byte: u8) -> Result<(), Fail> {
+    let mut body = invoice(heap, 1)?;
     put(&mut body, at, &[byte]);
-    refuses(rt, 0x13, first(&body, 66), BuildFault::MalformedInvoice);
+    refuses(rt, 0x13, &body, BuildFault::MalformedInvoice);
+    Ok(())
 }
 
 #[test]
-fn invoices_that_the_card_would_refuse(rt: HostRuntime) {
-    malformed(&rt, 57, 0);
-    malformed(&rt, 57, 2);
-    malformed(&rt, 58, 0);
-    malformed(&rt, 58, 13);
-    malformed(&rt, 48, 5);
-    malformed(&rt, 49, 2);
-    malformed(&rt, 8, 0x7f);
-    malformed(&rt, 20, 0);
-    malformed(&rt, 28, 0x1f);
+fn invoices_that_the_card_would_refuse(rt: HostRuntime) -> Result<(), Fail> {
+    for (at, byte) in [
+        (57, 0),
+        (57, 2),
+        (58, 0),
+        (58, 13),
+        (48, 5),
+        (49, 2),
+        (8, 0x7f),
+        (20, 0),
+        (28, 0x1f),
+    ] {
+        malformed(&rt, rt.alloc(), at, byte)?;
+    }
     refuses(&rt, 0x13, &[0; 58], BuildFault::MalformedInvoice);
+    Ok(())
 }
 
 #[test]
@@ -149,22 +156,15 @@ fn instructions_that_are_unknown(rt: HostRuntime) {
     refuses(&rt, 0x88, &[0; 4], unknown);
 }
 
+// An instruction and a body; and the kind, the place of the body and the Le of the command that is built of them.
+type Case<'a> = (u8, &'a [u8], Kind, usize, Option<u32>);
+
 // Checks how a command that is built is read back, and that its Le is enough for the data of its kind.
-fn reads_back(
-    rt: &impl Abort,
-    instruction: u8,
-    body: &[u8],
-    kind: Kind,
-    place: usize,
-    le: Option<u32>,
-) -> Result<(), Fail> {
+fn reads_back(rt: &impl Abort, case: Case<'_>) -> Result<(), Fail> {
+    let (instruction, body, kind, place, le) = case;
     let mut out = [0xee; 600];
-    let Ok(len) = host::build(instruction, body, &mut out) else {
-        return Err(Fail::new("not built"));
-    };
-    let Ok(command) = host::read(first(&out, len)) else {
-        return Err(Fail::new("no command"));
-    };
+    let len = host::build(instruction, body, &mut out)?;
+    let command = host::read(&out[..len])?;
     assert_eq!(rt; command.kind(), kind);
     let Request {
         header,
@@ -177,35 +177,27 @@ fn reads_back(
         (instruction, place, le)
     );
     same(rt, read, body);
-    match (host::data_length(kind), le) {
-        (Some(n), Some(le)) => {
-            assert!(rt; n <= le as usize);
-            Ok(())
-        },
-        (Some(n), None) => {
-            assert_eq!(rt; n, 0);
-            Ok(())
-        },
-        (None, _) => Err(Fail::new("no kind of the card")),
-    }
+    let n = host::data_length(kind).ok_or("no kind of the card")?;
+    assert!(rt; le.map_or(n == 0, |le| n <= le as usize));
+    Ok(())
 }
 
 #[test]
 fn every_command_is_read_back(rt: HostRuntime) -> Result<(), Fail> {
-    reads_back(&rt, 0xa4, NAME, Kind::Select, 5, Some(256))?;
-    reads_back(&rt, 0x08, &[], Kind::Version, 4, Some(256))?;
-    reads_back(&rt, 0x16, &[], Kind::Tries, 4, Some(256))?;
-    reads_back(&rt, 0x14, &[], Kind::Amounts, 4, Some(256))?;
-    reads_back(&rt, 0x15, &[], Kind::Last, 4, Some(65536))?;
-    reads_back(&rt, 0x11, b"1234", Kind::Pin, 5, None)?;
-    reads_back(
-        &rt,
-        0x13,
-        first(&invoice(12), 154),
-        Kind::Sign,
-        7,
-        Some(65536),
-    )?;
-    reads_back(&rt, 0x12, &[], Kind::Export, 4, Some(65536))?;
-    reads_back(&rt, 0x40, &[0x5a; 512], Kind::Directive, 7, None)
+    let invoice = invoice(rt.alloc(), 12)?;
+    let cases: [Case<'_>; 9] = [
+        (0xa4, NAME, Kind::Select, 5, Some(256)),
+        (0x08, &[], Kind::Version, 4, Some(256)),
+        (0x16, &[], Kind::Tries, 4, Some(256)),
+        (0x14, &[], Kind::Amounts, 4, Some(256)),
+        (0x15, &[], Kind::Last, 4, Some(65536)),
+        (0x11, b"1234", Kind::Pin, 5, None),
+        (0x13, &invoice, Kind::Sign, 7, Some(65536)),
+        (0x12, &[], Kind::Export, 4, Some(65536)),
+        (0x40, &[0x5a; 512], Kind::Directive, 7, None),
+    ];
+    for case in cases {
+        reads_back(&rt, case)?;
+    }
+    Ok(())
 }

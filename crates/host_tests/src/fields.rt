@@ -1,5 +1,5 @@
 // The fields of answers.
-use crate::shared::{first, put, same};
+use crate::shared::{put, same};
 use host::{AmountsAnswer, SignedAnswer, Transaction};
 use std::test::Fail;
 
@@ -13,7 +13,7 @@ fn amounts_of_an_answer(rt: HostRuntime) {
         limit: 1000000000000000,
     };
     assert_eq!(rt; AmountsAnswer::read(&data), Some(expected));
-    assert_eq!(rt; AmountsAnswer::read(first(&data, 13)), None);
+    assert_eq!(rt; AmountsAnswer::read(&data[..13]), None);
     assert_eq!(rt; AmountsAnswer::read(&[0; 15]), None);
     let largest = AmountsAnswer {
         unaudited: 72057594037927935,
@@ -39,9 +39,7 @@ fn signed() -> [u8; 577] {
 #[test]
 fn fields_of_a_signing_answer(rt: HostRuntime) -> Result<(), Fail> {
     let data = signed();
-    let Some(answer) = SignedAnswer::read(&data) else {
-        return Err(Fail::new("no fields"));
-    };
+    let answer = SignedAnswer::read(&data).ok_or("no fields")?;
     same(&rt, answer.date, &[1; 8]);
     same(&rt, answer.taxpayer, &[2; 20]);
     same(&rt, answer.buyer, &[3; 20]);
@@ -65,11 +63,9 @@ fn has_fields(data: &[u8]) -> bool {
 fn sales_and_what_has_no_fields(rt: HostRuntime) -> Result<(), Fail> {
     let mut data = signed();
     put(&mut data, 49, &[0]);
-    let Some(answer) = SignedAnswer::read(&data) else {
-        return Err(Fail::new("no fields"));
-    };
+    let answer = SignedAnswer::read(&data).ok_or("no fields")?;
     assert_eq!(rt; answer.transaction, Transaction::Sale);
-    assert!(rt; !has_fields(first(&data, 576)));
+    assert!(rt; data.get(..576).is_some_and(|cut| !has_fields(cut)));
     assert!(rt; !has_fields(&[0; 578]));
     assert!(rt; !has_fields(&[]));
     put(&mut data, 49, &[2]);

@@ -1,11 +1,22 @@
 // Answers that are checked, and their data.
-use crate::shared::{first, put, same};
+use crate::shared::same;
 use host::{AnswerFault, CallError, StatusWord};
+use std::alloc::{AllocError, Global};
 use std::process::Abort;
+use std::test::Fail;
 
-const INSTRUCTIONS: [u8; 9] = [0xa4, 0x08, 0x16, 0x14, 0x15, 0x11, 0x13, 0x12, 0x40];
-
-const LENGTHS: [usize; 9] = [0, 12, 1, 14, 577, 0, 577, 565, 0];
+// Each instruction, and how many bytes of data it answers.
+const DATA: [(u8, usize); 9] = [
+    (0xa4, 0),
+    (0x08, 12),
+    (0x16, 1),
+    (0x14, 14),
+    (0x15, 577),
+    (0x11, 0),
+    (0x13, 577),
+    (0x12, 565),
+    (0x40, 0),
+];
 
 // Checks that a response is an answer with this word.
 fn accepts(rt: &impl Abort, instruction: u8, response: &[u8], word: StatusWord) {
@@ -20,64 +31,56 @@ fn refuses(rt: &impl Abort, instruction: u8, response: &[u8], fault: AnswerFault
     assert_eq!(rt; host::examine(instruction, response), Err(fault));
 }
 
-// An accepted answer with so many bytes of data, and zeros behind it.
-fn success(len: usize) -> [u8; 600] {
-    let mut response = [0; 600];
-    put(&mut response, len, &[0x90]);
-    response
+// An accepted answer with so many bytes of data.
+fn success(heap: Global, len: usize) -> Result<Vec<u8>, AllocError> {
+    let mut response = Vec::from_elem(heap, 0, len)?;
+    response.extend_from_slice(&[0x90, 0x00])?;
+    Ok(response)
 }
 
 #[test]
-fn success_wants_the_data_of_its_kind(rt: HostRuntime) {
-    for i in 0..9usize {
-        let instruction = INSTRUCTIONS[i];
-        let len = LENGTHS[i];
+fn success_wants_the_data_of_its_kind(rt: HostRuntime) -> Result<(), Fail> {
+    let heap = rt.alloc();
+    let wrong = AnswerFault::WrongDataLength;
+    for (instruction, len) in DATA {
         assert!(rt; len < 580);
-        accepts(
-            &rt,
-            instruction,
-            first(&success(len), len + 2),
-            StatusWord::Success,
-        );
-        let wrong = AnswerFault::WrongDataLength;
-        refuses(&rt, instruction, first(&success(len + 1), len + 3), wrong);
+        let right = success(heap, len)?;
+        accepts(&rt, instruction, &right, StatusWord::Success);
+        refuses(&rt, instruction, &success(heap, len + 1)?, wrong);
         if len > 0 {
-            refuses(&rt, instruction, first(&success(len - 1), len + 1), wrong);
+            refuses(&rt, instruction, &success(heap, len - 1)?, wrong);
         }
     }
+    Ok(())
 }
 
-const WORDS: [StatusWord; 17] = [
-    StatusWord::WrongPin,
-    StatusWord::NoSeal,
-    StatusWord::StoreRefused,
-    StatusWord::WrongLength,
-    StatusWord::PinNotVerified,
-    StatusWord::PinBlocked,
-    StatusWord::OverLimit,
-    StatusWord::NotSelected,
-    StatusWord::BadSeal,
-    StatusWord::BadBody,
-    StatusWord::UnknownApplet,
-    StatusWord::NoRoom,
-    StatusWord::WrongParameters,
-    StatusWord::NothingSigned,
-    StatusWord::UnknownInstruction,
-    StatusWord::UnknownClass,
-    StatusWord::UnsoundImage,
-];
-
-const VALUES: [u16; 17] = [
-    0x6302, 0x6400, 0x6581, 0x6700, 0x6982, 0x6983, 0x6985, 0x6986, 0x6988, 0x6a80, 0x6a82, 0x6a84,
-    0x6a86, 0x6a88, 0x6d00, 0x6e00, 0x6f00,
+// The status words of refusals, with their values.
+const REFUSALS: [(u16, StatusWord); 17] = [
+    (0x6302, StatusWord::WrongPin),
+    (0x6400, StatusWord::NoSeal),
+    (0x6581, StatusWord::StoreRefused),
+    (0x6700, StatusWord::WrongLength),
+    (0x6982, StatusWord::PinNotVerified),
+    (0x6983, StatusWord::PinBlocked),
+    (0x6985, StatusWord::OverLimit),
+    (0x6986, StatusWord::NotSelected),
+    (0x6988, StatusWord::BadSeal),
+    (0x6a80, StatusWord::BadBody),
+    (0x6a82, StatusWord::UnknownApplet),
+    (0x6a84, StatusWord::NoRoom),
+    (0x6a86, StatusWord::WrongParameters),
+    (0x6a88, StatusWord::NothingSigned),
+    (0x6d00, StatusWord::UnknownInstruction),
+    (0x6e00, StatusWord::UnknownClass),
+    (0x6f00, StatusWord::UnsoundImage),
 ];
 
 #[test]
 fn every_refusal_of_the_card_stands_alone(rt: HostRuntime) {
-    for i in 0..17usize {
-        let [high, low] = VALUES[i].to_be_bytes();
-        for instruction in INSTRUCTIONS {
-            accepts(&rt, instruction, &[high, low], WORDS[i]);
+    for (value, word) in REFUSALS {
+        let [high, low] = value.to_be_bytes();
+        for (instruction, _) in DATA {
+            accepts(&rt, instruction, &[high, low], word);
             refuses(
                 &rt,
                 instruction,

@@ -1,30 +1,24 @@
 // What the tests share: bytes to work on, and an invoice.
 use octets::copy_at;
+use std::alloc::{AllocError, Global};
 use std::process::Abort;
 
-// Puts bytes in the place of others.
+// The other test crate has the two below as well: a crate for two functions would be longer.
+
+// Puts bytes in the place of others. Where there is no room nothing is put, and the test then fails at what it
+// compares.
 pub(crate) fn put(bytes: &mut [u8], at: usize, new: &[u8]) {
     let _ = copy_at(bytes, at, new);
 }
 
-// The first bytes; all where there are fewer.
-pub(crate) fn first(bytes: &[u8], len: usize) -> &[u8] {
-    if len <= bytes.len() {
-        &bytes[0..len]
-    } else {
-        bytes
-    }
-}
-
-// Checks that bytes are the same.
+// Checks that bytes are the same: `assert_eq!` alone does not compare an array with a slice.
 pub(crate) fn same(rt: &impl Abort, left: &[u8], right: &[u8]) {
-    assert_eq!(rt; left.len(), right.len());
-    assert!(rt; left == right);
+    assert_eq!(rt; left, right);
 }
 
-// A signing body with this count and room for 13 categories, of the ids 1 to 13; its first bytes are one with fewer.
-pub(crate) fn invoice(categories: u8) -> [u8; 162] {
-    let mut body = [0; 162];
+// A signing body with so many categories, of the ids from 1 on.
+pub(crate) fn invoice(heap: Global, categories: u8) -> Result<Vec<u8>, AllocError> {
+    let mut body = [0; 58];
     put(
         &mut body,
         0,
@@ -37,13 +31,9 @@ pub(crate) fn invoice(categories: u8) -> [u8; 162] {
         48,
         &[4, 1, 0, 0, 0, 0, 0, 0x03, 0xe8, categories],
     );
-    put_ids(&mut body);
-    body
-}
-
-// Puts the ids 1 to 13 where the categories of a body begin.
-fn put_ids(body: &mut [u8]) {
-    for id in 1..14u8 {
-        put(body, 50 + 8 * usize::from(id), &[id]);
+    let mut body = Vec::from_slice(heap, &body)?;
+    for id in 1..=categories {
+        body.extend_from_slice(&[id, 0, 0, 0, 0, 0, 0, 0])?;
     }
+    Ok(body)
 }

@@ -1,5 +1,6 @@
 // Answers in words.
 use crate::commands::Hex;
+use crate::refusals::Refused;
 use host::{AmountsAnswer, Kind, SignedAnswer, Transaction};
 use std::fmt;
 
@@ -17,14 +18,10 @@ impl fmt::Display for AnswerWords<'_> {
         match host::examine(self.instruction, self.response) {
             Ok(word) => {
                 let data = host::answer_data(self.response);
-                write!(f, "{:04X} ({word}), data {}", word.value(), Hex(data))?;
+                write!(f, "{:04X} ({word}), data {}", u16::from(word), Hex(data))?;
                 write_fields(f, Kind::named(self.instruction), data)
             }
-            Err(fault) => {
-                let refusal = fault.refusal();
-                let code = refusal.number();
-                write!(f, "refused with {code} ({refusal}): {fault}")
-            }
+            Err(fault) => write!(f, "{}", Refused::by(fault)),
         }
     }
 }
@@ -32,18 +29,19 @@ impl fmt::Display for AnswerWords<'_> {
 // Writes the fields of data that has some.
 fn write_fields<W: fmt::Write>(f: &mut fmt::Formatter<W>, kind: Kind, data: &[u8]) -> fmt::Result {
     match kind {
-        Kind::Amounts => match AmountsAnswer::read(data) {
-            Some(AmountsAnswer { unaudited, limit }) => {
-                write!(f, "\n  unaudited amount {unaudited}, limit {limit}")
+        Kind::Amounts => {
+            if let Some(AmountsAnswer { unaudited, limit }) = AmountsAnswer::read(data) {
+                write!(f, "\n  unaudited amount {unaudited}, limit {limit}")?;
             }
-            None => Ok(()),
-        },
-        Kind::Last | Kind::Sign => match SignedAnswer::read(data) {
-            Some(signed) => write_signed(f, &signed),
-            None => Ok(()),
-        },
-        _ => Ok(()),
+        }
+        Kind::Last | Kind::Sign => {
+            if let Some(signed) = SignedAnswer::read(data) {
+                write_signed(f, &signed)?;
+            }
+        }
+        _ => {}
     }
+    Ok(())
 }
 
 // Writes the fields of a signing answer.

@@ -1,4 +1,5 @@
 // Bytes and commands in words.
+use crate::refusals::Refused;
 use host::{BuildFault, Command, Request};
 use std::fmt;
 
@@ -8,8 +9,8 @@ pub struct Hex<'a>(pub &'a [u8]);
 
 impl fmt::Display for Hex<'_> {
     fn fmt<W: fmt::Write>(&self, f: &mut fmt::Formatter<W>) -> fmt::Result {
-        if self.0.len() == 0 {
-            return write!(f, "-");
+        if self.0.is_empty() {
+            return f.pad("-");
         }
         for byte in self.0 {
             write!(f, "{byte:02X}")?;
@@ -44,40 +45,25 @@ impl fmt::Display for CommandWords<'_> {
         )?;
         match le {
             Some(n) => write!(f, "Le {n}"),
-            None => write!(f, "no Le"),
+            None => f.pad("no Le"),
         }
     }
 }
 
-// What building the command of an instruction gave, and the buffer with it: the command and how it is read back, or
-// why it is refused.
+// What building the command of an instruction gave: the command and how it is read back, or why it is refused.
 #[derive(Clone, Copy)]
 pub struct BuildWords<'a> {
     pub instruction: u8,
-    pub result: Result<usize, BuildFault>,
-    pub buffer: &'a [u8],
+    pub result: Result<&'a [u8], BuildFault>,
 }
 
 impl fmt::Display for BuildWords<'_> {
     fn fmt<W: fmt::Write>(&self, f: &mut fmt::Formatter<W>) -> fmt::Result {
         write!(f, "build {:02X}: ", self.instruction)?;
         match self.result {
-            Ok(len) => write_read_back(f, first(self.buffer, len)),
-            Err(fault) => {
-                let refusal = fault.refusal();
-                let code = refusal.number();
-                write!(f, "refused with {code} ({refusal}): {fault}")
-            }
+            Ok(command) => write_read_back(f, command),
+            Err(fault) => write!(f, "{}", Refused::by(fault)),
         }
-    }
-}
-
-// The first bytes of a buffer.
-fn first(buffer: &[u8], len: usize) -> &[u8] {
-    if len <= buffer.len() {
-        &buffer[0..len]
-    } else {
-        buffer
     }
 }
 

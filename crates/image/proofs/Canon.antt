@@ -1,31 +1,29 @@
 -- Writing what was read from a sound image gives the same bytes.
-use Rattle.std.proofs.Common.{◌≡◌, ℕ, ◌+◌, ◌*◌, ◌<◌, ◌≤◌, Bool, true, false, cond, ◌&&◌, eqb, ◌⊎◌, List, [], ◌∷◌, length, get_or, take, drop, replicate, Some, None, Ok, Err, Option, Result, sym, refl, ap, ◌∙◌, subst, inl, inr, ⊎_elim, arith, eqb-true, le-leb}
-use Rattle.std.proofs.lemmas.List.{get_or-take, get_or-drop, take_all, drop-take, drop-drop}
+use Rattle.std.proofs.Common.{◌≡◌, ℕ, ◌+◌, ◌*◌, ◌<◌, ◌≤◌, Bool, true, false, cond, ◌&&◌, eqb, ◌⊎◌, List, [], ◌∷◌, length, get_or, drop, replicate, Some, None, Ok, Err, Option, Result, sym, refl, ap, ◌∙◌, subst, inl, inr, ⊎_elim, arith, eqb-true, le-leb}
+use Rattle.std.proofs.lemmas.List.{get_or-take, get_or-drop, take_all}
 use Rattle.std.proofs.ByRecursion.{All-take, All-drop}
 use Rattle.std.proofs.lemmas.Bool.{and_parts}
 use Rattle.std.proofs.lemmas.Int.Digits.{number_lt}
 use Rattle.std.specs.Int.Digits.{AllBelowBase}
 use Rattle.octets.specs.Big.{be, big}
 use Rattle.octets.specs.Parts.{part}
-use Rattle.octets.proofs.Bigs.{be-big}
+use Rattle.octets.proofs.Bigs.{be-big_of}
 use Rattle.octets.proofs.Pieces.{length-part, part-part}
-use Rattle.measures.specs.Lists.{every}
+use Rattle.std.specs.List.{list_all}
 use Rattle.ledger.specs.Sides.{packed_sides, sides_in}
 use Rattle.ledger.proofs.Halves.{packed_sides-sides_in}
 use Rattle.stores.specs.Sizes.{image_size}
-use Rattle.image.specs.declared.fields.LastAnswer.{LastAnswer}
-use Rattle.image.specs.declared.fields.LastAnswer.TheVariants.{Nothing, Signed}
 use Rattle.image.specs.declared.fields.Mark.{Mark}
 use Rattle.image.specs.declared.flaws.Flaw.{Flaw}
 use Rattle.image.specs.declared.flaws.Flaw.TheVariants.{Size, Kinds, MarkFlag, LastFlag}
 use Rattle.image.specs.Places.{widths, count_width, sum_width, amount_width, answer_width, ids, counters_at, sums_at, unaudited_at, limit_at, mark_at, mark_counter_at, mark_amount_at, pin_at, tries_at, rows_at, last_at, answer_at, key_at}
-use Rattle.image.specs.Layout.{mark_flag, mark_counter, mark_amount, last_flag, last_bytes, no_answer, mark_in, last_in, image_fields, joined, image_bytes, image_in}
-use Rattle.image.specs.Sound.{kinds_right, zero_byte, fits_flag, flag_good, mark_part, last_part, records_layout, check, onward, sized_read, WrittenBack}
+use Rattle.image.specs.Layout.{Meaning, mark_flag, mark_counter, mark_amount, last_flag, last_bytes, no_answer, mark_in, last_in, image_fields, joined, image_bytes, image_in}
+use Rattle.image.specs.Sound.{kinds_right, zero_byte, flag_good, mark_part, last_part, check, onward, sized_read, WrittenBack}
 use Rattle.image.specs.Writing.{amount_max, amounts_fit}
-use Rattle.image.proofs.Parcels.{cut, joined-cut}
+use Rattle.image.proofs.Parcels.{cut, joined-cut, fits_flag-part}
 
 -- bytes that are all zero
-zeros_are : (bs : List ℕ) → every zero_byte bs ≡ true → bs ≡ replicate (length bs) 0
+zeros_are : (bs : List ℕ) → list_all zero_byte bs ≡ true → bs ≡ replicate (length bs) 0
 zeros_are [] h = refl
 zeros_are (b ∷ bs) h =
     let both = and_parts (zero_byte b) _ h in
@@ -37,7 +35,7 @@ module _ (bs : List ℕ) (size : length bs ≡ image_size) (u : AllBelowBase 256
 
   -- numbers and tallies are written again as the bytes that they were read from
   number_again : (at w : ℕ) → at + w ≤ image_size → be w (big (part at w bs)) ≡ part at w bs
-  number_again at w h = let l : length (part at w bs) ≡ w = length-part at w bs (omega arith) in ap (λ n. be n (big (part at w bs))) (sym l) ∙ be-big (part at w bs) (under at w)
+  number_again at w h = be-big_of w (part at w bs) (length-part at w bs (omega arith)) (under at w)
 
   sides_again : (at w n : ℕ) → at + 2 * (w * n) ≤ image_size → packed_sides w (sides_in w n (part at (2 * (w * n)) bs)) ≡ part at (2 * (w * n)) bs
   sides_again at w n h = packed_sides-sides_in w n (part at (2 * (w * n)) bs) (under at (2 * (w * n))) (length-part at (2 * (w * n)) bs (omega arith))
@@ -56,19 +54,13 @@ module _ (bs : List ℕ) (size : length bs ≡ image_size) (u : AllBelowBase 256
 
   -- a flag with m bytes behind it is 0, and they are zero, or it is 1
   flag_cases : (at m : ℕ) → at + (1 + m) ≤ image_size → flag_good (part at (1 + m) bs) ≡ true → ((get_or bs at 0 ≡ 0) × (part (at + 1) m bs ≡ replicate m 0)) ⊎ (get_or bs at 0 ≡ 1)
-  flag_cases at m h good = go (eqb (get_or bs at 0) 0) refl (sym (ap (λ f. fits_flag f (drop 1 (part at (1 + m) bs))) flag) ∙ good)
+  flag_cases at m h good = go (eqb (get_or bs at 0) 0) refl (fits_flag-part at m bs ∙ good)
     where
-      flag : get_or (part at (1 + m) bs) 0 0 ≡ get_or bs at 0
-      flag = get_or-take (1 + m) (drop at bs) 0 0 (omega arith) ∙ get_or-drop at bs 0 0 ∙ ap (λ k. get_or bs k 0) (omega arith)
-
-      behind : drop 1 (part at (1 + m) bs) ≡ part (at + 1) m bs
-      behind = drop-take 1 m (drop at bs) ∙ ap (take m) (drop-drop 1 at bs)
-
-      go : (b : Bool) → eqb (get_or bs at 0) 0 ≡ b → cond b (every zero_byte (drop 1 (part at (1 + m) bs))) (eqb (get_or bs at 0) 1) ≡ true →
+      go : (b : Bool) → eqb (get_or bs at 0) 0 ≡ b → cond b (list_all zero_byte (part (at + 1) m bs)) (eqb (get_or bs at 0) 1) ≡ true →
           ((get_or bs at 0 ≡ 0) × (part (at + 1) m bs ≡ replicate m 0)) ⊎ (get_or bs at 0 ≡ 1)
       go true e z =
           let l : length (part (at + 1) m bs) ≡ m = length-part (at + 1) m bs (omega arith) in
-          inl (eqb-true (get_or bs at 0) 0 e, zeros_are (part (at + 1) m bs) (ap (every zero_byte) (sym behind) ∙ z) ∙ ap (λ n. replicate n 0) l)
+          inl (eqb-true (get_or bs at 0) 0 e, zeros_are (part (at + 1) m bs) z ∙ ap (λ n. replicate n 0) l)
       go false e one = inr (eqb-true (get_or bs at 0) 1 one)
 
   -- the three fields of the mark are written again
@@ -94,15 +86,15 @@ module _ (bs : List ℕ) (size : length bs ≡ image_size) (u : AllBelowBase 256
       marked e = subst ToldMark (by_flag 1 e) (byte_again mark_at 1 (omega arith) e, (number_again mark_counter_at count_width (omega arith), number_again mark_amount_at amount_width (omega arith)))
 
   -- and so are the two of the last answer
-  abbrev ToldLast : LastAnswer → Type 0
+  abbrev ToldLast : Option (List ℕ) → Type 0
   ToldLast l = (be 1 (last_flag l) ≡ part last_at 1 bs) × (last_bytes l ≡ part answer_at answer_width bs)
 
   last_again : flag_good (last_part bs) ≡ true → ToldLast (last_in bs)
   unfolding last_part no_answer
   last_again good = ⊎_elim unsigned signed (flag_cases last_at answer_width (omega arith) good)
     where
-      by_flag : (f : ℕ) → get_or bs last_at 0 ≡ f → cond (eqb f 0) Nothing (Signed (part answer_at answer_width bs)) ≡ last_in bs
-      by_flag f e = ap (λ k. cond (eqb k 0) Nothing (Signed (part answer_at answer_width bs))) (sym e)
+      by_flag : (f : ℕ) → get_or bs last_at 0 ≡ f → cond (eqb f 0) None (Some (part answer_at answer_width bs)) ≡ last_in bs
+      by_flag f e = ap (λ k. cond (eqb k 0) None (Some (part answer_at answer_width bs))) (sym e)
 
       unsigned : (get_or bs last_at 0 ≡ 0) × (part answer_at answer_width bs ≡ replicate answer_width 0) → ToldLast (last_in bs)
       unsigned z = subst ToldLast (by_flag 0 z.0) (byte_again last_at 0 (omega arith) z.0, sym z.1)
@@ -149,24 +141,16 @@ module _ (bs : List ℕ) (size : length bs ≡ image_size) (u : AllBelowBase 256
       ∷ kind 830 6 (omega arith) k5.1 j ∷ number_again key_at count_width (omega arith) j ∷ [] in
       ap joined fields ∙ joined-cut 0 widths bs ∙ take_all image_size bs (omega arith)
 
--- what found no flaw
-passed : {X : Type 0} (t : Bool) (r : Result X Flaw) (f : Flaw) (x : X) → cond t r (Err f) ≡ Ok x → (t ≡ true) × (r ≡ Ok x)
-passed true r f x e = (refl, e)
-passed false r f x e = let z : ◌≡◌ {A = ℕ} 0 1 = cc in absurd (omega arith)
-
-went_on : {X : Type 0} (a : Result (Unit {0}) Flaw) (r : Result X Flaw) (x : X) → onward a r ≡ Ok x → (a ≡ Ok tt) × (r ≡ Ok x)
-went_on (Ok u) r x e = (refl, e)
-went_on (Err f) r x e = let z : ◌≡◌ {A = ℕ} 0 1 = cc in absurd (omega arith)
+-- bytes that are read have passed each test
+passed : (t k m l : Bool) (c : Result (Unit {0}) Flaw) (x i : Meaning) →
+    cond t (onward (cond k (cond m (cond l (Ok tt) (Err LastFlag)) (Err MarkFlag)) (Err Kinds)) (onward c (Ok x))) (Err Size) ≡ Ok i →
+    (t ≡ true) × ((k ≡ true) × ((m ≡ true) × ((l ≡ true) × (x ≡ i))))
+passed t k m l c x i e = grind arith
 
 pub canonical : (bs : List ℕ) → AllBelowBase 256 bs → WrittenBack bs
 unfolding sized_read
 canonical bs u i e =
-    let sized = passed (eqb (length bs) image_size) _ Size i e in
-    let laid = went_on (records_layout bs) _ i sized.1 in
-    let checked = went_on (check (image_in bs)) _ i laid.1 in
-    let kinds = passed (kinds_right bs) _ Kinds tt laid.0 in
-    let mark = passed (flag_good (mark_part bs)) _ MarkFlag tt kinds.1 in
-    let last = passed (flag_good (last_part bs)) _ LastFlag tt mark.1 in
-    let is : image_in bs ≡ i = let same = checked.1 in cc in
-    let size = eqb-true (length bs) image_size sized.0 in
-    (ap amounts_fit (sym is) ∙ fit_again bs size u, ap image_bytes (sym is) ∙ written_back bs size u kinds.0 mark.0 last.0)
+    let p = passed (eqb (length bs) image_size) (kinds_right bs) (flag_good (mark_part bs)) (flag_good (last_part bs)) (check (image_in bs)) (image_in bs) i e in
+    let size = eqb-true (length bs) image_size p.0 in
+    let is = sym p.1.1.1.1 in
+    (ap amounts_fit is ∙ fit_again bs size u, ap image_bytes is ∙ written_back bs size u p.1.0 p.1.1.0 p.1.1.1.0)

@@ -1,19 +1,15 @@
--- The fields of what was written are the same, and a buffer's beginning is written whole.
-use Rattle.std.proofs.Common.{◌≡◌, ℕ, ◌^◌, ◌<◌, ◌≤◌, cond, eqb, List, [], ◌++◌, length, get_or, take, drop, Some, None, Option, sym, refl, ap, ◌∙◌, mod-eq_of_lt, arith, lit<}
-use Rattle.std.proofs.lemmas.List.{get_or-take, get_or-drop, drop_all, append-nil, length-take}
+-- The fields of what was written are the same.
+use Rattle.std.proofs.Common.{◌≡◌, ℕ, ◌^◌, ◌<◌, cond, eqb, List, [], length, get_or, drop, Some, None, Option, sym, refl, ap, ◌∙◌, mod-eq_of_lt, arith, lit<}
+use Rattle.std.proofs.lemmas.List.{get_or-take, get_or-drop}
 use Rattle.octets.specs.Big.{be, big}
 use Rattle.octets.specs.Parts.{part}
 use Rattle.octets.proofs.Bigs.{big-be}
 use Rattle.ledger.specs.Sides.{Sides, packed_sides, sides_in}
-use Rattle.image.specs.declared.fields.LastAnswer.{LastAnswer}
-use Rattle.image.specs.declared.fields.LastAnswer.TheVariants.{Nothing, Signed}
 use Rattle.image.specs.declared.fields.Mark.{Mark}
 use Rattle.image.specs.Places.{widths, count_width, sum_width, amount_width, answer_width, ids, mark_at, mark_counter_at, mark_amount_at, last_at, answer_at}
 use Rattle.image.specs.Layout.{Meaning, mark_flag, mark_counter, mark_amount, last_flag, last_bytes, image_fields, image_bytes, image_in}
-use Rattle.stores.specs.Sizes.{image_size}
-use Rattle.image.specs.Filling.{filled}
 use Rattle.image.specs.Fitting.{SidesFit, Fits}
-use Rattle.image.proofs.Parcels.{Wide, offset, field_of, filled_is}
+use Rattle.image.proofs.Parcels.{Wide, offset, field_of}
 
 pub wide : (i : Meaning) → Fits i → Wide widths (image_fields i)
 wide i f = (
@@ -90,17 +86,17 @@ mark-back None flag counter amount ef ec ea = ap (λ k. cond (eqb k 0) None (Som
 mark-back (Some m) flag counter amount ef ec ea =
     ap (λ k. cond (eqb k 0) None (Some (record { counter = counter; amount = amount }))) ef ∙ λ j. Some (record { counter = ec j; amount = ea j })
 
-last-back : (l : LastAnswer) (flag : ℕ) (answer : List ℕ) → flag ≡ last_flag l → answer ≡ last_bytes l → cond (eqb flag 0) Nothing (Signed answer) ≡ l
-last-back Nothing flag answer ef ea = ap (λ k. cond (eqb k 0) Nothing (Signed answer)) ef
-last-back (Signed a) flag answer ef ea = ap (λ k. cond (eqb k 0) Nothing (Signed answer)) ef ∙ ap Signed ea
+last-back : (l : Option (List ℕ)) (flag : ℕ) (answer : List ℕ) → flag ≡ last_flag l → answer ≡ last_bytes l → cond (eqb flag 0) None (Some answer) ≡ l
+last-back None flag answer ef ea = ap (λ k. cond (eqb k 0) None (Some answer)) ef
+last-back (Some a) flag answer ef ea = ap (λ k. cond (eqb k 0) None (Some answer)) ef ∙ ap Some ea
 
 flag_small : (m : Option Mark) → mark_flag m < 256
 flag_small None = lit< tt
 flag_small (Some m) = lit< tt
 
-last-small : (l : LastAnswer) → last_flag l < 256
-last-small Nothing = lit< tt
-last-small (Signed a) = lit< tt
+last-small : (l : Option (List ℕ)) → last_flag l < 256
+last-small None = lit< tt
+last-small (Some a) = lit< tt
 
 -- reading what was written gives the same
 module _ (i : Meaning) (f : Fits i) where
@@ -129,11 +125,3 @@ module _ (i : Meaning) (f : Fits i) where
         last = last j;
         key_version = number_back count_width i.key_version _ f.key (field_at 18 (lit< tt)) j;
       }
-
-  -- the whole of a buffer's beginning is filled
-  pub encoded : (out x : List ℕ) → x ≡ filled 0 widths (image_fields i) (take image_size out) → image_size ≤ length out → x ++ drop image_size out ≡ B ++ drop image_size out
-  encoded out x e room =
-      let old : List ℕ = take image_size out in
-      let l : length old ≤ image_size = simp length-take (omega arith) in
-      ap (λ u. u ++ drop image_size out)
-      (e ∙ filled_is 0 widths (image_fields i) [] old (wide i f) refl ∙ ap (λ u. B ++ u) (drop_all image_size old l) ∙ append-nil B)

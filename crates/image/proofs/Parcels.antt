@@ -1,10 +1,11 @@
 -- Fields laid end to end, and cut out again.
 use Rattle.std.proofs.Common.{◌≡◌, ℕ, zero, suc, ◌+◌, ◌-◌, ◌<◌, List, [], ◌∷◌, ◌++◌, length, get_or, take, drop, sym, refl, ap, ◌∙◌, arith, take-add}
-use Rattle.std.proofs.lemmas.List.{take_at, append_assoc, length-append, drop-drop}
-use Rattle.octets.specs.Parts.{part, overwritten}
-use Rattle.octets.proofs.Pieces.{part_right, overwritten_next}
+use Rattle.std.proofs.lemmas.List.{take_at, append_assoc, append-nil, length-append, drop-drop, drop-take, get_or-take, get_or-drop}
+use Rattle.octets.specs.Parts.{part}
+use Rattle.octets.proofs.Pieces.{part_right}
 use Rattle.image.specs.Layout.{joined}
-use Rattle.image.specs.Filling.{put_at, filled}
+use Rattle.image.specs.Filling.{laid}
+use Rattle.image.specs.Sound.{fits_flag, flag_good}
 
 -- the widths, summed
 abbrev pub sum : List ℕ → ℕ
@@ -25,19 +26,11 @@ length-joined [] (f ∷ fs) h = absurd h
 length-joined (w ∷ ws) [] h = absurd h
 length-joined (w ∷ ws) (f ∷ fs) h = length-append f (joined fs) ∙ omega (arith, h.0, length-joined ws fs h.1)
 
--- a buffer that holds p up to a place, and is filled from there
-pub filled_is : (at : ℕ) (ws : List ℕ) (fs : List (List ℕ)) (p old : List ℕ) → Wide ws fs → length p ≡ at → filled at ws fs (p ++ drop at old) ≡ p ++ (joined fs ++ drop (at + sum ws) old)
-unfolding joined put_at
-filled_is at [] [] p old h l = ap (λ n. p ++ drop n old) (omega arith)
-filled_is at [] (f ∷ fs) p old h l = absurd h
-filled_is at (w ∷ ws) [] p old h l = absurd h
-filled_is at (w ∷ ws) (f ∷ fs) p old h l =
-    let next : overwritten at f (p ++ drop at old) ≡ (p ++ f) ++ drop (at + w) old = overwritten_next at p f old l ∙ ap (λ n. (p ++ f) ++ drop (at + n) old) h.0 in
-    let lp : length (p ++ f) ≡ at + w = length-append p f ∙ omega (arith, l, h.0) in
-    let end : at + w + sum ws ≡ at + (w + sum ws) = omega arith in
-    ap (filled (at + w) ws fs) next ∙ filled_is (at + w) ws fs (p ++ f) old h.1 lp
-    ∙ append_assoc p f (joined fs ++ drop (at + w + sum ws) old) ∙ ap (λ u. p ++ u) (sym (append_assoc f (joined fs) (drop (at + w + sum ws) old)))
-    ∙ ap (λ n. p ++ ((f ++ joined fs) ++ drop n old)) end
+-- fields laid behind bytes are those bytes, and the fields joined
+pub laid_is : (bs : List ℕ) (fs : List (List ℕ)) → laid bs fs ≡ bs ++ joined fs
+unfolding joined
+laid_is bs [] = sym (append-nil bs)
+laid_is bs (f ∷ fs) = laid_is (bs ++ f) fs ∙ append_assoc bs f (joined fs)
 
 -- where field k begins
 abbrev pub offset : List ℕ → ℕ → ℕ
@@ -58,6 +51,13 @@ field_of (w ∷ ws) (f ∷ fs) h (suc k) l =
 -- two parts that lie side by side
 pub side_by_side : (at n m : ℕ) (bs : List ℕ) → part at n bs ++ part (at + n) m bs ≡ part at (n + m) bs
 side_by_side at n m bs = ap (λ u. part at n bs ++ take m u) (sym (drop-drop n at bs)) ∙ sym (take-add n m (drop at bs))
+
+-- a flag with m bytes behind it, in bytes
+pub fits_flag-part : (at m : ℕ) (bs : List ℕ) → fits_flag (get_or bs at 0) (part (at + 1) m bs) ≡ flag_good (part at (1 + m) bs)
+fits_flag-part at m bs =
+    let flag : get_or (part at (1 + m) bs) 0 0 ≡ get_or bs at 0 = get_or-take (1 + m) (drop at bs) 0 0 (omega arith) ∙ get_or-drop at bs 0 0 ∙ ap (λ k. get_or bs k 0) (omega arith) in
+    let behind : drop 1 (part at (1 + m) bs) ≡ part (at + 1) m bs = drop-take 1 m (drop at bs) ∙ ap (take m) (drop-drop 1 at bs) in
+    sym (λ j. fits_flag (flag j) (behind j))
 
 -- the fields of these widths from a place on
 abbrev pub cut : ℕ → List ℕ → List ℕ → List (List ℕ)

@@ -3,8 +3,6 @@ use Rattle.std.proofs.Common.{◌≡◌, ℕ, ◌<◌, true, cond, ◌&&◌, eqb
 use Rattle.octets.specs.Big.{be}
 use Rattle.octets.specs.Parts.{part}
 use Rattle.stores.specs.Sizes.{image_size}
-use Rattle.image.specs.declared.fields.LastAnswer.{LastAnswer}
-use Rattle.image.specs.declared.fields.LastAnswer.TheVariants.{Nothing, Signed}
 use Rattle.image.specs.declared.fields.Mark.{Mark}
 use Rattle.image.specs.declared.flaws.Flaw.TheVariants.{Size, Kinds, MarkFlag, LastFlag}
 use Rattle.image.specs.Places.{widths, count_width, amount_width, answer_width, mark_at, last_at}
@@ -19,10 +17,10 @@ mark-good : (m : Option Mark) → flag_good (be 1 (mark_flag m) ++ (be count_wid
 mark-good None = refl
 mark-good (Some m) = refl
 
-last-good : (l : LastAnswer) → flag_good (be 1 (last_flag l) ++ last_bytes l) ≡ true
+last-good : (l : Option (List ℕ)) → flag_good (be 1 (last_flag l) ++ last_bytes l) ≡ true
 unfolding no_answer
-last-good Nothing = refl
-last-good (Signed a) = refl
+last-good None = refl
+last-good (Some a) = refl
 
 module _ (i : Meaning) (f : Fits i) where
   abbrev B : List ℕ

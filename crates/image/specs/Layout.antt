@@ -5,8 +5,6 @@ use Rattle.octets.specs.Parts.{part}
 use Rattle.ledger.specs.Sides.{Sides, sides, packed_sides, sides_in}
 use Rattle.image.specs.declared.fields.Image.{Image}
 use Rattle.image.specs.declared.fields.Mark.{Mark}
-use Rattle.image.specs.declared.fields.LastAnswer.{LastAnswer}
-use Rattle.image.specs.declared.fields.LastAnswer.TheVariants.{Nothing, Signed}
 use Rattle.image.specs.Places.{counters_at, sums_at, unaudited_at, limit_at, mark_at, mark_counter_at, mark_amount_at, pin_at, tries_at, rows_at, last_at, answer_at, key_at, count_width, sum_width, amount_width, pin_width, answer_width, counters_width, sums_width, rows_width, ids}
 
 -- what an image means: the numbers of its tallies, and its other fields
@@ -19,7 +17,7 @@ pub record Meaning : Type 0 where
   pub pin : List ℕ
   pub tries : ℕ
   pub rows : Sides
-  pub last : LastAnswer
+  pub last : Option (List ℕ)
   pub key_version : ℕ
 
 -- what an image of the code means
@@ -32,7 +30,7 @@ meaning i = record {
   mark = i.mark;
   pin = i.pin;
   tries = i.tries;
-  rows = sides (λ r. r.values) i.rows;
+  rows = sides (λ r. r.value) i.rows;
   last = i.last;
   key_version = i.key_version;
 }
@@ -53,18 +51,18 @@ mark_amount (Some m) = m.amount
 mark_amount None = 0
 
 -- the flag of the last answer: before the first signing its bytes are zero
-abbrev pub last_flag : LastAnswer → ℕ
-last_flag (Signed answer) = 1
-last_flag Nothing = 0
+abbrev pub last_flag : Option (List ℕ) → ℕ
+last_flag (Some answer) = 1
+last_flag None = 0
 
 -- the bytes of no answer
 unfoldable pub no_answer : List ℕ
 no_answer = replicate answer_width 0
 
 -- the bytes of the last answer as they are stored
-abbrev pub last_bytes : LastAnswer → List ℕ
-last_bytes (Signed answer) = answer
-last_bytes Nothing = no_answer
+abbrev pub last_bytes : Option (List ℕ) → List ℕ
+last_bytes (Some answer) = answer
+last_bytes None = no_answer
 
 -- record 01, its fields as bytes in order: kind, counters, sums
 abbrev pub counters_record : Meaning → List (List ℕ)
@@ -110,8 +108,8 @@ abbrev pub mark_in : List ℕ → Option Mark
 mark_in bs = cond (slice_index bs mark_at == 0) None (Some (record { counter = big (part mark_counter_at count_width bs); amount = big (part mark_amount_at amount_width bs) }))
 
 -- the last answer in the bytes of an image, by its flag
-abbrev pub last_in : List ℕ → LastAnswer
-last_in bs = cond (slice_index bs last_at == 0) Nothing (Signed (part answer_at answer_width bs))
+abbrev pub last_in : List ℕ → Option (List ℕ)
+last_in bs = cond (slice_index bs last_at == 0) None (Some (part answer_at answer_width bs))
 
 -- the image in bytes
 abbrev pub image_in : List ℕ → Meaning

@@ -3,7 +3,6 @@ use Rattle.std.specs.Prelude.{ℕ, Bool, cond, ◌&&◌, List, [], ◌∷◌, le
 use Rattle.status.specs.declared.errors.CallError.{CallError}
 use Rattle.status.specs.declared.errors.CallError.TheVariants.{SmallBuffer, BadField}
 use Rattle.stores.specs.Sizes.{image_size}
-use Rattle.image.specs.declared.fields.LastAnswer.TheVariants.{Nothing}
 use Rattle.image.specs.Places.{ids}
 use Rattle.image.specs.Layout.{Meaning, image_bytes}
 use Rattle.image.specs.Sound.{most_tries, pin_good}
@@ -20,9 +19,13 @@ personal pin limit key = record {
   pin = pin;
   tries = most_tries;
   rows = (replicate ids 0, replicate ids 0);
-  last = Nothing;
+  last = None;
   key_version = key;
 }
+
+-- the digits of a PIN, if it has four
+abbrev pub pin_entered : List ℕ → Result (List ℕ) CallError
+pin_entered pin = cond (pin_good pin) (Ok pin) (Err BadField)
 
 -- whether a PIN and a limit are good
 abbrev pub personal_good : List ℕ → ℕ → Bool

@@ -1,7 +1,7 @@
 -- Soundness: what an image must keep, clause by clause.
-use Rattle.std.specs.Prelude.{◌≡◌, ℕ, ◌+◌, ◌-◌, ◌^◌, Bool, true, cond, ◌&&◌, List, length, drop, Ok, Err, Result, ◌==◌, nat_le, slice_index}
+use Rattle.std.specs.Prelude.{◌≡◌, ℕ, ◌+◌, ◌-◌, ◌^◌, Bool, true, false, cond, ◌&&◌, List, length, drop, Ok, Err, Result, ◌==◌, nat_le, slice_index}
 use Rattle.octets.specs.Parts.{part}
-use Rattle.measures.specs.Lists.{every}
+use Rattle.std.specs.List.{list_all}
 use Rattle.stores.specs.Sizes.{image_size}
 use Rattle.image.specs.declared.fields.Image.{Image}
 use Rattle.image.specs.declared.flaws.Flaw.{Flaw}
@@ -30,7 +30,7 @@ zero_byte b = b == 0
 
 -- whether fields may stand behind a flag: it is 0, and they are zero, or it is 1
 abbrev pub fits_flag : ℕ → List ℕ → Bool
-fits_flag flag fields = cond (flag == 0) (every zero_byte fields) (flag == 1)
+fits_flag flag fields = cond (flag == 0) (list_all zero_byte fields) (flag == 1)
 
 -- whether a flag fits all fields behind it
 abbrev pub flag_good : List ℕ → Bool
@@ -65,7 +65,7 @@ digit b = nat_le 0x30 b && nat_le b 0x39
 
 -- whether bytes are a PIN
 abbrev pub pin_good : List ℕ → Bool
-pin_good bs = length bs == pin_width && every digit bs
+pin_good bs = length bs == pin_width && list_all digit bs
 
 -- whether an answer is kept exactly when something was signed
 abbrev pub last_right : Meaning → Bool
@@ -89,6 +89,11 @@ check i =
     (Err MarkCounter))
     (Err OverLimit))
     (Err Total)
+
+-- the flaw of what must be kept, if it is not
+abbrev pub held : Bool → Flaw → Result (Unit {0}) Flaw
+held true f = Ok tt
+held false f = Err f
 
 -- a second test after a first one that found no flaw
 abbrev pub onward : {X : Type 0} → Result (Unit {0}) Flaw → Result X Flaw → Result X Flaw

@@ -3,17 +3,10 @@ use crate::places::{ANSWER_SIZE, PIN_SIZE};
 use ledger::{Money, Number, Row, Tally};
 
 // The mark of an export: the total counter and the unaudited amount that it saw.
-#[derive(Clone, Copy)]
+#[derive(Clone, Copy, Default)]
 pub struct Mark {
     pub counter: u32,
     pub amount: u64,
-}
-
-// The answer to the last signing.
-#[derive(Clone, Copy)]
-pub enum LastAnswer {
-    Nothing,
-    Signed([u8; ANSWER_SIZE]),
 }
 
 #[derive(Clone, Copy)]
@@ -26,6 +19,7 @@ pub struct Image {
     pub pin: [u8; PIN_SIZE],
     pub tries: u8,
     pub rows: Tally<Row>,
-    pub last: LastAnswer,
+    // the answer to the last signing
+    pub last: Option<[u8; ANSWER_SIZE]>,
     pub key_version: u32,
 }

@@ -1,7 +1,8 @@
 // The ways in which an image can be unsound.
-ghost use Rattle.std.specs.Prelude.{◌≡◌, Some};
+ghost use Rattle.std.specs.Prelude.{Some};
 ghost use Rattle.image.specs.Flaws.{flaw_name};
 
+use std::error::Error;
 use std::fmt;
 
 #[derive(Clone, Copy, PartialEq, Eq, Debug)]
@@ -19,12 +20,11 @@ pub enum Flaw {
     LastAnswer,
 }
 
-impl Flaw {
-    // What the flaw is.
-    fn name(self) -> &'static str
-        ensures { result.now ≡ flaw_name self }
-    {
-        match self {
+impl fmt::Display for Flaw {
+    ghost output = { λ f. Some (flaw_name f) };
+
+    fn fmt<W: fmt::Write>(&self, f: &mut fmt::Formatter<W>) -> fmt::Result {
+        f.pad(match self {
             Flaw::Size => "not 835 bytes",
             Flaw::Kinds => "a wrong kind byte",
             Flaw::MarkFlag => "a bad mark flag",
@@ -36,14 +36,8 @@ impl Flaw {
             Flaw::Pin => "PIN not four digits",
             Flaw::Tries => "more than five tries",
             Flaw::LastAnswer => "last answer and total disagree",
-        }
+        })
     }
 }
 
-impl fmt::Display for Flaw {
-    ghost output = { λ f. Some (flaw_name f) };
-
-    fn fmt<W: fmt::Write>(&self, f: &mut fmt::Formatter<W>) -> fmt::Result {
-        fmt::Display::fmt(&self.name(), f)
-    }
-}
+impl Error for Flaw {}

@@ -8,8 +8,9 @@ pub mod places;
 mod reading;
 mod sound;
 mod writing;
+mod written;
 
-pub use fields::{Image, LastAnswer, Mark};
+pub use fields::{Image, Mark};
 pub use flaws::Flaw;
 pub use personal::personalise;
 pub use places::{AMOUNT_SIZE, ANSWER_SIZE, PIN_SIZE};

@@ -1,15 +1,28 @@
 // Where the fields of an image begin. Each record has its kind byte before its fields.
 use ledger::{Money, Number, Row, StoredMeasure};
+pub use measures::sizes::AMOUNT_SIZE;
 
-// The bytes of an amount, of the PIN and of an answer to a signing.
-pub const AMOUNT_SIZE: usize = 7;
-
+// The bytes of the PIN and of an answer to a signing.
 pub const PIN_SIZE: usize = 4;
 
 pub const ANSWER_SIZE: usize = 577;
 
+// The kinds of the records, each the first byte of its record.
+// Six constants would be no plainer: the enum says that these are all, and that they are neither places nor sizes.
+#[derive(Clone, Copy)]
+pub(crate) enum Kind {
+    Counters = 1,
+    Money = 2,
+    Pin = 3,
+    Rows = 4,
+    Last = 5,
+    Key = 6,
+}
+
 // Record 01: counters and sums.
-pub(crate) const COUNTERS_AT: usize = 1;
+pub(crate) const COUNTERS_KIND_AT: usize = 0;
+
+pub(crate) const COUNTERS_AT: usize = COUNTERS_KIND_AT + 1;
 
 pub(crate) const SUMS_AT: usize = COUNTERS_AT + 2 * Number::WIDTH;
 
@@ -49,5 +62,3 @@ pub(crate) const ANSWER_AT: usize = LAST_AT + 1;
 pub(crate) const KEY_KIND_AT: usize = ANSWER_AT + ANSWER_SIZE;
 
 pub(crate) const KEY_AT: usize = KEY_KIND_AT + 1;
-
-pub(crate) const KEY_SIZE: usize = 4;

@@ -1,120 +1,81 @@
 // Soundness: what an image must keep.
-ghost use Rattle.std.specs.Prelude.{◌≡◌, ◌≤◌, length};
-ghost use Rattle.measures.specs.Lists.{every};
-ghost use Rattle.stores.specs.Sizes.{image_size};
+ghost use Rattle.std.specs.Prelude.{◌≡◌};
+ghost use Rattle.std.specs.List.{list_all};
 ghost use Rattle.image.specs.Layout.{meaning};
-ghost use Rattle.image.specs.Sound.{kinds_right, zero_byte, fits_flag, flag_good, last_part, records_layout, total, digit, pin_good, last_right, check};
+ghost use Rattle.image.specs.Sound.{kinds_right, fits_flag, flag_good, mark_part, last_part, records_layout, total, zero_byte, digit, held, check};
 
 use crate::fields::Image;
 use crate::flaws::Flaw;
 use crate::places::{
-    KEY_KIND_AT, LAST_AT, LAST_KIND_AT, MARK_AT, MONEY_KIND_AT, PIN_KIND_AT, PIN_SIZE, ROWS_KIND_AT,
+    ANSWER_AT, COUNTERS_KIND_AT, KEY_KIND_AT, Kind, LAST_AT, LAST_KIND_AT, MARK_AT,
+    MARK_COUNTER_AT, MONEY_KIND_AT, PIN_KIND_AT, PIN_SIZE, ROWS_KIND_AT,
 };
-use crate::writing::{last_flag, mark_amount, mark_counter};
+use stores::IMAGE_SIZE;
 
 // The tries of a PIN that has just been entered rightly.
 pub(crate) const MOST_TRIES: u8 = 5;
 
+// The flaw of what must be kept, if it is not.
+fn hold(kept: bool, flaw: Flaw) -> Result<(), Flaw>
+    ensures { result ≡ held kept flaw }
+{
+    if kept { Ok(()) } else { Err(flaw) }
+}
+
 // The flaw in the kind bytes and flags of the records, if they have one.
-pub(crate) fn check_records(bytes: &[u8]) -> Result<(), Flaw>
-    requires { length bytes.now ≡ image_size }
+pub(crate) fn check_records(bytes: &[u8; IMAGE_SIZE]) -> Result<(), Flaw>
     ensures { result ≡ records_layout bytes.now }
 {
-    if !kinds_right(bytes) {
-        return Err(Flaw::Kinds);
-    }
-    if !is_flag_good(&bytes[MARK_AT..PIN_KIND_AT]) {
-        return Err(Flaw::MarkFlag);
-    }
-    if !is_last_good(bytes) {
-        return Err(Flaw::LastFlag);
-    }
-    Ok(())
+    hold(are_kinds_right(bytes), Flaw::Kinds)?;
+    hold(is_mark_good(bytes), Flaw::MarkFlag)?;
+    hold(is_last_good(bytes), Flaw::LastFlag)
 }
 
 // Whether the six records have their kind bytes.
-fn kinds_right(bytes: &[u8]) -> bool
-    requires { length bytes.now ≡ image_size }
+fn are_kinds_right(bytes: &[u8; IMAGE_SIZE]) -> bool
     ensures { result ≡ kinds_right bytes.now }
 {
-    bytes[0] == 1
-        && bytes[MONEY_KIND_AT] == 2
-        && bytes[PIN_KIND_AT] == 3
-        && bytes[ROWS_KIND_AT] == 4
-        && bytes[LAST_KIND_AT] == 5
-        && bytes[KEY_KIND_AT] == 6
+    bytes[COUNTERS_KIND_AT] == Kind::Counters as u8
+        && bytes[MONEY_KIND_AT] == Kind::Money as u8
+        && bytes[PIN_KIND_AT] == Kind::Pin as u8
+        && bytes[ROWS_KIND_AT] == Kind::Rows as u8
+        && bytes[LAST_KIND_AT] == Kind::Last as u8
+        && bytes[KEY_KIND_AT] == Kind::Key as u8
 }
 
-// Whether the flag of the last answer is good.
-fn is_last_good(bytes: &[u8]) -> bool
-    requires { length bytes.now ≡ image_size }
+// Whether the flag of the mark fits its fields.
+fn is_mark_good(bytes: &[u8; IMAGE_SIZE]) -> bool
+    ensures { result ≡ flag_good (mark_part bytes.now) }
+{
+    fits_flag(bytes[MARK_AT], &bytes[MARK_COUNTER_AT..PIN_KIND_AT])
+}
+
+// Whether the flag of the last answer fits it. As for the mark: one for both would take three places.
+fn is_last_good(bytes: &[u8; IMAGE_SIZE]) -> bool
     ensures { result ≡ flag_good (last_part bytes.now) }
 {
-    is_flag_good(&bytes[LAST_AT..KEY_KIND_AT])
+    fits_flag(bytes[LAST_AT], &bytes[ANSWER_AT..KEY_KIND_AT])
 }
 
-// Whether a flag is 0, with zeros behind it, or 1.
-fn is_flag_good(bytes: &[u8]) -> bool
-    requires { 1 ≤ length bytes.now }
-    ensures { result ≡ flag_good bytes.now }
-{
-    fits_flag(bytes[0], &bytes[1..])
-}
-
-// Whether fields may stand behind a flag.
+// Whether a flag fits the fields behind it: it is 0, and they are zero, or it is 1.
 fn fits_flag(flag: u8, fields: &[u8]) -> bool
     ensures { result ≡ fits_flag flag fields.now }
 {
-    if flag == 0 {
-        are_zero(fields)
-    } else {
-        flag == 1
-    }
+    flag == 1 || flag == 0 && are_zero(fields)
 }
 
 // Whether all bytes are zero.
 fn are_zero(bytes: &[u8]) -> bool
-    ensures { result ≡ every zero_byte bytes.now }
+    ensures { result ≡ list_all zero_byte bytes.now }
 {
-    for b in bytes {
-        if !is_zero(*b) {
-            return false;
-        }
-    }
-    true
-}
-
-// Whether a byte is zero.
-fn is_zero(b: u8) -> bool
-    ensures { result ≡ zero_byte b }
-{
-    b == 0
+    bytes.iter().all(|b| *b == 0)
 }
 
 // Whether bytes are a PIN: four ASCII digits.
-pub(crate) fn is_pin(bytes: &[u8]) -> bool
-    ensures { result ≡ pin_good bytes.now }
+pub(crate) fn is_pin(bytes: &[u8; PIN_SIZE]) -> bool
+    ensures { result ≡ list_all digit bytes.now }
 {
-    bytes.len() == PIN_SIZE && are_digits(bytes)
-}
-
-// Whether all bytes are ASCII digits.
-fn are_digits(bytes: &[u8]) -> bool
-    ensures { result ≡ every digit bytes.now }
-{
-    for b in bytes {
-        if !is_digit(*b) {
-            return false;
-        }
-    }
-    true
-}
-
-// Whether a byte is an ASCII digit.
-fn is_digit(b: u8) -> bool
-    ensures { result ≡ digit b }
-{
-    0x30 <= b && b <= 0x39
+    bytes.iter().all(|b| b.is_ascii_digit())
 }
 
 impl Image {
@@ -130,35 +91,13 @@ impl Image {
         ensures { result ≡ check (meaning self.now) }
     {
         let total = self.total();
-        if total > u64::from(u32::MAX) {
-            return Err(Flaw::Total);
-        }
-        if self.unaudited > self.limit {
-            return Err(Flaw::OverLimit);
-        }
-        if u64::from(mark_counter(&self.mark)) > total {
-            return Err(Flaw::MarkCounter);
-        }
-        if mark_amount(&self.mark) > self.unaudited {
-            return Err(Flaw::MarkAmount);
-        }
-        if !is_pin(&self.pin) {
-            return Err(Flaw::Pin);
-        }
-        if self.tries > MOST_TRIES {
-            return Err(Flaw::Tries);
-        }
-        if !self.is_last_right() {
-            return Err(Flaw::LastAnswer);
-        }
-        Ok(())
-    }
-
-    // Whether an answer is kept exactly when something was signed.
-    fn is_last_right(&self) -> bool
-        ensures { result ≡ last_right (meaning self.now) }
-    {
-        let expected = if self.total() == 0 { 0 } else { 1 };
-        last_flag(&self.last) == expected
+        let mark = self.mark.unwrap_or_default();
+        hold(total <= u64::from(u32::MAX), Flaw::Total)?;
+        hold(self.unaudited <= self.limit, Flaw::OverLimit)?;
+        hold(u64::from(mark.counter) <= total, Flaw::MarkCounter)?;
+        hold(mark.amount <= self.unaudited, Flaw::MarkAmount)?;
+        hold(is_pin(&self.pin), Flaw::Pin)?;
+        hold(self.tries <= MOST_TRIES, Flaw::Tries)?;
+        hold(self.last.is_some() == (total > 0), Flaw::LastAnswer)
     }
 }

@@ -1,17 +1,17 @@
 -- Numbers of one width that lie side by side.
-use Rattle.std.proofs.Common.{◌≡◌, ℕ, zero, suc, ◌+◌, ◌-◌, ◌*◌, ◌^◌, ◌<◌, ◌≤◌, true, cond, leb, List, [], ◌∷◌, ◌++◌, length, get_or, take, drop, set, Some, None, Option, sym, refl, ap, ◌∙◌, mul-le-mul_left, mul-suc, add-one, arith, lit<, length-append, take-append-drop, length-take, eq-eqb, le-leb}
+use Rattle.std.proofs.Common.{◌≡◌, ℕ, zero, suc, ◌+◌, ◌*◌, ◌^◌, ◌<◌, ◌≤◌, true, cond, List, [], ◌∷◌, ◌++◌, length, get_or, take, drop, Some, None, Fits, w8, sym, refl, ap, ◌∙◌, mul-suc, arith, lit<, length-append, take-append-drop, length-take, eq-eqb}
 use native.Mathlib.Nat.{pow-le-pow_right}
-use borrow.Rule.Slice.PartMut.{put_mid}
-use Rattle.std.proofs.lemmas.List.{length-take-le, length-drop, drop_all, take_all, take_at, drop_at, take_more, take_more_set, drop-drop, append_assoc, append-nil, nil_from_length}
+use Rattle.std.proofs.lemmas.List.{length-take-le, length-drop, take_at, drop_at, nil_from_length}
+use Rattle.std.proofs.lemmas.List.Concat.{flat_map-cons}
 use Rattle.std.proofs.lemmas.Int.Digits.{number_lt}
 use Rattle.std.proofs.ByRecursion.{All-take, All-drop}
-use Rattle.std.proofs.lemmas.Bool.Decides.{nat_tests}
+use Rattle.std.proofs.lemmas.Nat.{from_be_bytes-to_be_bytes_8, be_bytes_4, be_bytes_8}
+use Rattle.std.specs.Int.{w32, w64, from_be_bytes}
 use Rattle.std.specs.Int.Digits.{AllBelowBase}
-use Rattle.octets.specs.Big.{be, big, number_read, writable, number_written}
-use Rattle.octets.specs.Parts.{part, overwritten}
+use Rattle.std.specs.List.{flat_map}
+use Rattle.std.specs.Simd.{first_chunks}
+use Rattle.octets.specs.Big.{be, big}
 use Rattle.octets.proofs.Bigs.{length-be, big-be, be-big}
-use Rattle.octets.proofs.Pieces.{put_mid_is, overwritten_next, length-part}
-use Rattle.std.specs.Option.{option_map}
 use Rattle.ledger.specs.Stored.{fields, packed, sized, stored_read}
 
 pub fields_next : (w n : ℕ) (bs : List ℕ) → fields w (suc n) bs ≡ big (take w bs) ∷ fields w n (drop w bs)
@@ -30,14 +30,6 @@ length-fields w (suc n) bs = ap suc (length-fields w n (drop w bs))
 pub length-packed : (w : ℕ) (ns : List ℕ) → length (packed w ns) ≡ w * length ns
 length-packed w [] = omega arith
 length-packed w (n ∷ ns) = length-append (be w n) (packed w ns) ∙ omega (arith, length-be w n, length-packed w ns, mul-suc w (length ns))
-
-packed-append : (w : ℕ) (xs ys : List ℕ) → packed w (xs ++ ys) ≡ packed w xs ++ packed w ys
-packed-append w [] ys = refl
-packed-append w (x ∷ xs) ys = ap (λ t. be w x ++ t) (packed-append w xs ys) ∙ sym (append_assoc (be w x) (packed w xs) (packed w ys))
-
-packed_more : (w : ℕ) (ns : List ℕ) (i : ℕ) → i < length ns → packed w (take (i + 1) ns) ≡ packed w (take i ns) ++ be w (get_or ns i 0)
-packed_more w ns i h =
-    ap (packed w) (take_more ns i 0 h) ∙ packed-append w (take i ns) (get_or ns i 0 ∷ []) ∙ ap (λ t. packed w (take i ns) ++ t) (append-nil (be w (get_or ns i 0)))
 
 -- numbers that each fit into w bytes
 abbrev pub Below : ℕ → List ℕ → Type 0
@@ -74,85 +66,63 @@ fields_below w (suc n) bs u zero h =
     rw (fields_next w n bs) (omega arith)
 fields_below w (suc n) bs u (suc i) h = rw (fields_next w n bs) (fields_below w n (drop w bs) (All-drop (λ d. d < 256) w bs u) i (omega arith))
 
--- one more number read
-pub fields_more : (w n i : ℕ) (row bs : List ℕ) (x : ℕ) → i < n → i < length row → x ≡ big (take w (drop (w * i) bs)) →
-    take (i + 1) (set row i x) ++ fields w (n - (i + 1)) (drop (w * (i + 1)) bs) ≡ take i row ++ fields w (n - i) (drop (w * i) bs)
-fields_more w n i row bs x lt within e =
-    let k : ℕ = n - (i + 1) in
-    let s : n - i ≡ suc k = omega arith in
-    let f = fields_next w k (drop (w * i) bs) in
-    let d = drop-drop w (w * i) bs in
-    let m : w * i + w ≡ w * (i + 1) = simp (add-one, mul-suc) in
-    let t = take_more_set row i x within in
-    let a = append_assoc (take i row) (x ∷ []) (fields w k (drop (w * (i + 1)) bs)) in
+-- numbers whose bytes are there are read from them
+pub read_packed : (w : ℕ) (ns bs : List ℕ) → packed w ns ≡ bs → Below w ns → Some ns ≡ stored_read w (length ns) bs
+read_packed w ns bs e b =
+    let s : sized w (length ns) (packed w ns) ≡ true = eq-eqb (length (packed w ns)) (w * length ns) (length-packed w ns) in
+    let f = fields-packed w ns b in
+    let r : stored_read w (length ns) (packed w ns) ≡ Some (fields w (length ns) (packed w ns)) = ap (λ t. cond t (Some (fields w (length ns) (packed w ns))) None) s in
+    sym (ap (stored_read w (length ns)) (sym e) ∙ r ∙ ap Some f)
+
+-- numbers that were written are read back from where they were copied to
+pub packed_back : (w : ℕ) (ns bs out : List ℕ) → packed w ns ≡ bs → Below w ns → out ≡ bs → fields w (length ns) out ≡ ns
+packed_back w ns bs out e b o = ap (fields w (length ns)) (o ∙ sym e) ∙ fields-packed w ns b
+
+-- the bytes of numbers are the bytes of each, joined
+pub packed_flat : (w : ℕ) (ns : List ℕ) (bss : List (List ℕ)) → length bss ≡ length ns → ((i : ℕ) → i < length ns → be w (get_or ns i 0) ≡ get_or bss i []) → packed w ns ≡ flat_map (λ x. x) bss
+packed_flat w [] [] l h = refl
+packed_flat w [] (b ∷ bss) l h = absurd (omega arith)
+packed_flat w (n ∷ ns) [] l h = absurd (omega arith)
+packed_flat w (n ∷ ns) (b ∷ bss) l h =
+    let first : be w n ≡ b = h 0 (omega arith) in
+    let rest : packed w ns ≡ flat_map (λ x. x) bss = packed_flat w ns bss (omega arith) (λ i k. h (suc i) (omega arith)) in
+    let joined = flat_map-cons (λ x. x) b bss in
     cc
 
--- all numbers read
-pub fields_all : (w n i : ℕ) (row bs : List ℕ) → length row ≡ n → n ≤ i → take i row ++ fields w (n - i) (drop (w * i) bs) ≡ fields w n bs → row ≡ fields w n bs
-fields_all w n i row bs l h inv =
-    let z : n - i ≡ 0 = omega arith in
-    let f = fields_none w (drop (w * i) bs) in
-    let le : length row ≤ i = omega arith in
-    let t = take_all i row le in
-    let a = append-nil row in
+pub below_one : (w n : ℕ) → n < 256 ^ w → Below w (n ∷ [])
+below_one w n h zero k = h
+below_one w n h (suc i) k = absurd (omega arith)
+
+-- eight bytes, read by the library
+eight_read : (bs : List ℕ) → AllBelowBase 256 bs → length bs ≡ 8 → from_be_bytes w64 bs ≡ big bs
+eight_read bs u l =
+    let s : be 8 (big bs) ≡ bs = ap (λ k. be k (big bs)) (sym l) ∙ be-big bs u in
+    let h : big bs < 2 ^ 64 = rw l at (number_lt 256 bs u) in
+    ap (from_be_bytes w64) (sym s) ∙ from_be_bytes-to_be_bytes_8 (big bs) h
+
+-- numbers of eight bytes, each read from its chunk
+pub chunks_read : (n : ℕ) (vs bs : List ℕ) → AllBelowBase 256 bs → length bs ≡ 8 * n → length vs ≡ n → ((i : ℕ) → i < n → get_or vs i 0 ≡ from_be_bytes w64 (get_or (first_chunks 8 n bs) i [])) → vs ≡ fields 8 n bs
+chunks_read zero vs bs u l m h = nil_from_length vs m ∙ sym (fields_none 8 bs)
+chunks_read (suc n) [] bs u l m h = absurd (omega arith)
+chunks_read (suc n) (v ∷ vs) bs u l m h =
+    let first : v ≡ big (take 8 bs) = h 0 (omega arith) ∙ eight_read (take 8 bs) (All-take (λ d. d < 256) 8 bs u) (length-take-le 8 bs (omega arith)) in
+    let rest : vs ≡ fields 8 n (drop 8 bs) = chunks_read n vs (drop 8 bs) (All-drop (λ d. d < 256) 8 bs u) (simp length-drop (omega arith)) (omega arith) (λ i k. h (suc i) (omega arith)) in
+    let f = fields_next 8 n bs in
     cc
 
--- a number lies within the bytes of n numbers
-pub field_room : (w i n : ℕ) → i < n → w * i + w ≤ w * n
-field_room w i n h = let m : w * suc i ≡ w * i + w = mul-suc w i in let l : w * suc i ≤ w * n = mul-le-mul_left w h in omega arith
+-- the bytes of one number are read back
+pub back_4 : (v : ℕ) (out : List ℕ) → v < 2 ^ 32 → out ≡ be 4 v → fields 4 1 out ≡ v ∷ []
+back_4 v out h e = packed_back 4 (v ∷ []) (be 4 v) out refl (below_one 4 v h) e
 
--- the place i of n numbers, after a number that fits was written to it
-pub written_field : (w i n v : ℕ) (o x : List ℕ) → i < n → w ≤ 8 → length o ≡ w * n → v < 256 ^ w → x ≡ number_written v (take ((w * i + w) - w * i) (drop (w * i) o)) → x ≡ be w v
-written_field w i n v o x h le lo lt e =
-    let k : (w * i + w) - w * i ≡ w = omega arith in
-    let room = field_room w i n h in
-    let l : length (part (w * i) w o) ≡ w = length-part (w * i) w o (omega arith) in
-    let p : number_written v (part (w * i) w o) ≡ cond (writable w v) (be w v) (part (w * i) w o) = ap (λ m. cond (writable m v) (be m v) (part (w * i) w o)) l in
-    let t : writable w v ≡ true = grind (arith, nat_tests) in
-    e ∙ ap (λ m. number_written v (take m (drop (w * i) o))) k ∙ p ∙ ap (λ b. cond b (be w v) (part (w * i) w o)) t
+pub back_8 : (v : ℕ) (out : List ℕ) → v < 2 ^ 64 → out ≡ be 8 v → fields 8 1 out ≡ v ∷ []
+back_8 v out h e = packed_back 8 (v ∷ []) (be 8 v) out refl (below_one 8 v h) e
 
--- the number at the place i of n numbers, as it is read
-pub read_field : (w i n v : ℕ) (bs : List ℕ) (r : Option ℕ) → i < n → w ≤ 8 → length bs ≡ w * n → r ≡ Some v → r ≡ number_read (take ((w * i + w) - w * i) (drop (w * i) bs)) → v ≡ big (take w (drop (w * i) bs))
-read_field w i n v bs r h le lb is e =
-    let k : (w * i + w) - w * i ≡ w = omega arith in
-    let room = field_room w i n h in
-    let l : length (part (w * i) w bs) ≡ w = length-part (w * i) w bs (omega arith) in
-    let t : leb (length (part (w * i) w bs)) 8 ≡ true = le-leb (length (part (w * i) w bs)) 8 (omega arith) in
-    let q : number_read (part (w * i) w bs) ≡ Some (big (part (w * i) w bs)) = ap (λ b. cond b (Some (big (part (w * i) w bs))) None) t in
-    let z : Some v ≡ Some (big (part (w * i) w bs)) = sym is ∙ e ∙ ap (λ m. number_read (take m (drop (w * i) bs))) k ∙ q in
-    cc
+-- what one number is read from
+pub read_4 : (v : ℕ) (bs : List ℕ) → length bs ≡ 4 → ((i : ℕ) → Fits w8 (get_or bs i 0)) → v < 2 ^ 32 → v ≡ from_be_bytes w32 bs → Some (v ∷ []) ≡ stored_read 4 1 bs
+read_4 v bs l u h e = read_packed 4 (v ∷ []) bs (be_bytes_4 bs v l (λ i. (u i).fits) e) (below_one 4 v h)
 
--- one more number written
-pub packed_write : (w i : ℕ) (ns o e x : List ℕ) → i < length ns → o ≡ packed w (take i ns) ++ drop (w * i) e → x ≡ be w (get_or ns i 0) →
-    put_mid (w * i) ((w * i + w) - w * i) o x ≡ packed w (take (i + 1) ns) ++ drop (w * (i + 1)) e
-packed_write w i ns o e x h inv is =
-    let v : List ℕ = be w (get_or ns i 0) in
-    let lv : length v ≡ w = length-be w (get_or ns i 0) in
-    let m : w * i + length v ≡ w * (i + 1) = ap (λ k. w * i + k) lv ∙ simp (add-one, mul-suc) in
-    let le : i ≤ length ns = omega arith in
-    let n : length (packed w (take i ns)) ≡ w * i = length-packed w (take i ns) ∙ ap (λ k. w * k) (length-take-le i ns le) in
-    put_mid_is (w * i) ((w * i + w) - w * i) (length v) (w * i + length v) o x v (omega arith) refl is
-    ∙ ap (λ l. overwritten (w * i) v l) inv
-    ∙ overwritten_next (w * i) (packed w (take i ns)) v e n
-    ∙ ap (λ l. l ++ drop (w * i + length v) e) (sym (packed_more w ns i h))
-    ∙ ap (λ k. packed w (take (i + 1) ns) ++ drop k e) m
+pub read_8 : (v : ℕ) (bs : List ℕ) → length bs ≡ 8 → ((i : ℕ) → Fits w8 (get_or bs i 0)) → v < 2 ^ 64 → v ≡ from_be_bytes w64 bs → Some (v ∷ []) ≡ stored_read 8 1 bs
+read_8 v bs l u h e = read_packed 8 (v ∷ []) bs (be_bytes_8 bs v l (λ i. (u i).fits) e) (below_one 8 v h)
 
--- all numbers written
-pub packed_all : (w i : ℕ) (ns o e : List ℕ) → length ns ≤ i → length e ≡ w * length ns → i ≡ length ns → o ≡ packed w (take i ns) ++ drop (w * i) e → o ≡ packed w ns
-packed_all w i ns o e h le m inv =
-    let j : w * i ≡ w * length ns = ap (λ k. w * k) m in
-    let s : length e ≤ w * i = omega arith in
-    let t = take_all i ns h in
-    let d = drop_all (w * i) e s in
-    let z = append-nil (packed w ns) in
-    cc
-
--- one number that is read from all bytes
-pub one_read : (w : ℕ) (bs : List ℕ) (r : Option ℕ) → length bs ≡ w → w ≤ 8 → r ≡ number_read bs → option_map (λ v. v ∷ []) r ≡ stored_read w 1 bs
-unfolding fields
-one_read w bs r l le e =
-    let t : leb (length bs) 8 ≡ true = le-leb (length bs) 8 (omega arith) in
-    let s : sized w 1 bs ≡ true = eq-eqb (length bs) (w * 1) (omega arith) in
-    let q : r ≡ Some (big bs) = e ∙ ap (λ b. cond b (Some (big bs)) None) t in
-    let h : length bs ≤ w = omega arith in
-    ap (option_map (λ v. v ∷ [])) q ∙ sym (ap (λ b. cond b (Some (fields w 1 bs)) None) s ∙ ap (λ x. Some (big x ∷ [])) (take_all w bs h))
+pub bytes_8 : (v : ℕ) (bs : List ℕ) → length bs ≡ 8 → ((i : ℕ) → Fits w8 (get_or bs i 0)) → v ≡ from_be_bytes w64 bs → packed 8 (v ∷ []) ≡ bs
+bytes_8 v bs l u e = be_bytes_8 bs v l (λ i. (u i).fits) e

@@ -1,6 +1,6 @@
 -- The two halves of a tally's bytes.
-use Rattle.std.proofs.Common.{◌≡◌, ℕ, ◌-◌, ◌*◌, ◌<◌, List, ◌++◌, length, take, drop, sym, refl, ap, ◌∙◌, arith, length-append, take-append-drop}
-use Rattle.std.proofs.lemmas.List.{length-take-le, length-drop, take_at, drop_at, take_rest}
+use Rattle.std.proofs.Common.{◌≡◌, ℕ, ◌*◌, ◌<◌, List, ◌++◌, length, take, drop, sym, refl, ap, ◌∙◌, arith, length-append, take-append-drop}
+use Rattle.std.proofs.lemmas.List.{length-take-le, length-drop, take_at, drop_at}
 use Rattle.std.proofs.ByRecursion.{All-take, All-drop}
 use Rattle.std.specs.Int.Digits.{AllBelowBase}
 use Rattle.ledger.specs.Stored.{fields, packed}
@@ -8,32 +8,11 @@ use Rattle.ledger.proofs.Fields.{Below, length-packed, fields-packed, packed-fie
 use Rattle.ledger.specs.Sides.{packed_sides, sides_in}
 
 -- the sides that were written are read back
-pub sides-back : (w n : ℕ) (o a b s r : List ℕ) → o ≡ a ++ b → length a ≡ w * n → fields w n a ≡ s → fields w n b ≡ r → sides_in w n o ≡ (s, r)
+sides-back : (w n : ℕ) (o a b s r : List ℕ) → o ≡ a ++ b → length a ≡ w * n → fields w n a ≡ s → fields w n b ≡ r → sides_in w n o ≡ (s, r)
 sides-back w n o a b s r e l fs fr =
     let t = take_at a b (w * n) l in
     let d = drop_at a b (w * n) l in
     cc
-
--- the sides, read from the parts before and behind the width k
-module _ (w n k : ℕ) (bs : List ℕ) (is : k ≡ w * n) where
-  front : take (k - 0) bs ≡ take (w * n) bs
-  front = let z : k - 0 ≡ w * n = omega arith in ap (λ m. take m bs) z
-
-  rear : take (length bs - k) (drop k bs) ≡ drop (w * n) bs
-  rear = take_rest bs k ∙ ap (λ m. drop m bs) is
-
-  pub sides-taken : (s r : List ℕ) → s ≡ fields w n (take (k - 0) bs) → r ≡ fields w n (take (length bs - k) (drop k bs)) → (s, r) ≡ sides_in w n bs
-  sides-taken s r es er =
-      let f = front in
-      let g = rear in
-      cc
-
-  pub sides-packed : (s r : List ℕ) → packed w s ≡ take (k - 0) bs → packed w r ≡ take (length bs - k) (drop k bs) → packed_sides w (s, r) ≡ bs
-  sides-packed s r es er =
-      let f = front in
-      let g = rear in
-      let j = take-append-drop (w * n) bs in
-      cc
 
 -- the same of sides that are packed and read with no code between
 pub length-packed_sides : (w n : ℕ) (s r : List ℕ) → length s ≡ n → length r ≡ n → length (packed_sides w (s, r)) ≡ 2 * (w * n)

@@ -1,26 +1,32 @@
 // A sum of amounts, stored.
+ghost use Rattle.std.proofs.Common.{rules};
 ghost use Rattle.measures.specs.Sizes.{money_size};
 
-use crate::stored::{read_number, write_number};
+use crate::stored::copy_whole;
 use crate::storing::StoredMeasure;
 use measures::Money;
 use measures::sizes::MONEY_SIZE;
+use octets::DoesNotFit;
 
+// As for `Number`: one text for both would need a trait with these two functions for u32 and u64, beyond `Addend`.
 impl StoredMeasure for Money {
     const WIDTH: usize = MONEY_SIZE;
 
     ghost each = { money_size };
 
-    fn stored_width() -> usize {
-        Self::WIDTH
+    ghost WIDTH = { money_size };
+
+    ghost width = { Prim.search rules };
+
+    ghost room = { Prim.search rules };
+
+    #[tactic(auto, using(crate::proofs::Fields::back_8))]
+    fn write(&self, out: &mut [u8]) -> Result<(), DoesNotFit> {
+        copy_whole(out, &self.value().to_be_bytes())
     }
 
-    fn write(&self, out: &mut [u8]) -> bool {
-        write_number(out, Self::WIDTH, self.value())
-    }
-
+    #[tactic(auto, using(crate::proofs::Fields::read_8, crate::proofs::Fields::bytes_8))]
     fn read(bytes: &[u8]) -> Option<Money> {
-        let value = read_number(bytes, Self::WIDTH)?;
-        Some(Money::new(value))
+        Some(Money::new(u64::from_be_bytes(*bytes.as_array()?)))
     }
 }

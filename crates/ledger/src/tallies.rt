@@ -1,12 +1,13 @@
 // Tallies: one measure for sales and one for refunds.
-ghost use Rattle.std.specs.Prelude.{◌≡◌, ◌*◌, true, length, replicate, Some};
+ghost use Rattle.std.specs.Prelude.{◌≡◌, ◌*◌, replicate, Some, Ok};
 ghost use Rattle.std.specs.Option.{option_map};
+ghost use Rattle.octets.specs.Fits.{fits};
 ghost use Rattle.measures.specs.Bodies.{said};
-ghost use Rattle.ledger.specs.Stored.{fields, packed};
 ghost use Rattle.ledger.specs.Sides.{sides, own_side, other_side, side_fits, tallied, packed_sides, sides_in, sides_sized, sides_read, sides_written};
 
 use crate::storing::StoredMeasure;
 use measures::{Invoice, Measure, Transaction};
+use octets::DoesNotFit;
 
 #[derive(Clone, Copy)]
 pub struct Tally<M> {
@@ -39,10 +40,7 @@ impl<M: Measure> Tally<M> {
     pub fn fits(&self, invoice: &Invoice) -> bool
         ensures { result ≡ side_fits M.counted (sides M.numbers self.now) (said invoice.now) }
     {
-        match invoice.transaction {
-            Transaction::Sale => self.sale.fits(invoice),
-            Transaction::Refund => self.refund.fits(invoice),
-        }
+        self.side(invoice.transaction).fits(invoice)
     }
 
     // Counts an invoice on the side of its transaction; one that does not fit is ignored. The other side stays as it
@@ -51,6 +49,7 @@ impl<M: Measure> Tally<M> {
         ensures after { sides M.numbers self.new ≡ tallied M.counted (sides M.numbers self.old) (said invoice.now) }
         ensures other { other_side invoice.now.transaction (self.new.sale, self.new.refund) ≡ other_side invoice.now.transaction (self.old.sale, self.old.refund) }
     {
+        // A function that lends a side to be written would need a starred clause.
         match invoice.transaction {
             Transaction::Sale => self.sale.add(invoice),
             Transaction::Refund => self.refund.add(invoice),
@@ -59,25 +58,27 @@ impl<M: Measure> Tally<M> {
 }
 
 impl<M: StoredMeasure> Tally<M> {
-    // The bytes of the tally: twice those of its measure.
+    // The bytes of the tally: twice those of its measure. Clauses say them by this formula, since a call is no part of a
+    // clause.
     pub fn stored_width() -> usize
         ensures { result ≡ 2 * (M.each * M.count) }
     {
-        2 * M::stored_width()
+        2 * M::WIDTH
     }
 
-    // Writes the sale side and then the refund side over the whole of `out`, and says whether it did: one of another
-    // length is left as it was.
-    pub fn write(&self, out: &mut [u8]) -> bool
-        ensures value { result ≡ sides_sized M.each M.count out.old }
+    // Writes the sale side and then the refund side over the whole of `out`; one of another length is refused, and left
+    // as it was.
+    pub fn write(&self, out: &mut [u8]) -> Result<(), DoesNotFit>
+        ensures value { result ≡ fits (sides_sized M.each M.count out.old) }
         ensures after { out.new ≡ sides_written M.each M.count (sides M.numbers self.now) out.old }
-        ensures back { result ≡ true → sides_in M.each M.count out.new ≡ sides M.numbers self.now }
+        ensures back { result ≡ Ok tt → sides_in M.each M.count out.new ≡ sides M.numbers self.now }
     {
         if out.len() != Self::stored_width() {
-            return false;
+            return Err(DoesNotFit);
         }
-        self.put(out);
-        true
+        let (sale, refund) = out.split_at_mut(M::WIDTH);
+        self.sale.write(sale)?;
+        self.refund.write(refund)
     }
 
     // The tally in bytes; none where they are of another length.
@@ -88,50 +89,10 @@ impl<M: StoredMeasure> Tally<M> {
         if bytes.len() != Self::stored_width() {
             return None;
         }
-        Some(Self::take(bytes))
+        let (sale, refund) = bytes.split_at(M::WIDTH);
+        // A `?` could let go of the first side, for which `M` would have to be `Drop`.
+        let sale = M::read(sale).unwrap();
+        let refund = M::read(refund).unwrap();
+        Some(Tally { sale, refund })
     }
-
-    // Writes the tally over an `out` of its length.
-    fn put(&self, out: &mut [u8])
-        requires { length out.old ≡ 2 * (M.each * M.count) }
-        ensures after { out.new ≡ packed_sides M.each (sides M.numbers self.now) }
-        ensures back { sides_in M.each M.count out.new ≡ sides M.numbers self.now }
-    {
-        let width = M::stored_width();
-        let end = out.len();
-        put_measure(&self.sale, &mut out[0..width]);
-        put_measure(&self.refund, &mut out[width..end]);
-    }
-
-    // The tally in bytes of its length.
-    fn take(bytes: &[u8]) -> Tally<M>
-        requires { length bytes.now ≡ 2 * (M.each * M.count) }
-        ensures value { sides M.numbers result ≡ sides_in M.each M.count bytes.now }
-        ensures back { packed_sides M.each (sides M.numbers result) ≡ bytes.now }
-    {
-        let width = M::stored_width();
-        let end = bytes.len();
-        Tally {
-            sale: take_measure(&bytes[0..width]),
-            refund: take_measure(&bytes[width..end]),
-        }
-    }
-}
-
-// Writes a measure over an `out` of its length.
-fn put_measure<M: StoredMeasure>(measure: &M, out: &mut [u8])
-    requires { length out.old ≡ M.each * M.count }
-    ensures after { out.new ≡ packed M.each (M.numbers measure.now) }
-    ensures back { fields M.each M.count out.new ≡ M.numbers measure.now }
-{
-    measure.write(out);
-}
-
-// The measure in bytes of its length.
-fn take_measure<M: StoredMeasure>(bytes: &[u8]) -> M
-    requires { length bytes.now ≡ M.each * M.count }
-    ensures value { M.numbers result ≡ fields M.each M.count bytes.now }
-    ensures back { packed M.each (M.numbers result) ≡ bytes.now }
-{
-    M::read(bytes).unwrap()
 }

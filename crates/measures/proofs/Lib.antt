@@ -1,4 +1,3 @@
-pub mod Every
-pub mod Padding
-pub mod Places
+pub mod Chunks
 pub mod Rows
+pub mod Fields

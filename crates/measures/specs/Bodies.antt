@@ -1,10 +1,11 @@
 -- The signing body, and the invoice in it.
-use Rattle.std.specs.Prelude.{ℕ, ◌+◌, ◌-◌, ◌*◌, ◌/◌, Bool, cond, ◌&&◌, List, length, drop, Some, None, Option, ◌==◌, nat_le, slice_index}
+use Rattle.std.specs.Prelude.{ℕ, ◌+◌, ◌-◌, ◌*◌, ◌/◌, Bool, cond, ◌&&◌, List, ◌++◌, length, drop, codes, decimal, Some, None, Option, ◌==◌, nat_le, slice_index}
 use Rattle.octets.specs.Big.{big}
 use Rattle.octets.specs.Parts.{part}
 use Rattle.measures.specs.declared.invoices.Invoice.{Invoice}
 use Rattle.measures.specs.declared.invoices.Transaction.{Transaction}
 use Rattle.measures.specs.declared.invoices.Transaction.TheVariants.{Sale, Refund}
+use Rattle.measures.specs.declared.invoices.UnknownTransaction.{UnknownTransaction}
 use Rattle.measures.specs.Categories.{categories_of, ids_known}
 use Rattle.measures.specs.Identifiers.{identifier, named}
 use Rattle.measures.specs.Sizes.{head_size, category_size, amount_size, identifier_size, id_count, taxpayer_at, buyer_at, type_at, transaction_at, amount_at, count_at, last_type}
@@ -13,6 +14,14 @@ use Rattle.measures.specs.Sizes.{head_size, category_size, amount_size, identifi
 abbrev pub transaction_byte : Transaction → ℕ
 transaction_byte Sale = 0
 transaction_byte Refund = 1
+
+-- the transaction that a byte says; none above 1
+abbrev pub transaction_said : ℕ → Option Transaction
+transaction_said b = cond (b == 0) (Some Sale) (cond (b == 1) (Some Refund) None)
+
+-- what is said of a byte of no transaction
+abbrev pub unknown_text : UnknownTransaction → List ℕ
+unknown_text u = codes "no transaction has the byte " ++ decimal u.value
 
 -- the transaction of a byte that is one
 abbrev pub transaction_of : ℕ → Transaction
@@ -67,6 +76,10 @@ codes_known b = type_known b && transaction_known b
 -- whether the taxpayer is named, and the buyer identifier is good
 abbrev pub parties_good : List ℕ → Bool
 parties_good b = taxpayer_named b && buyer_good b
+
+-- whether the fields but for the transaction are all good
+abbrev pub others_good : List ℕ → Bool
+others_good b = count_right b && (ids_known (categories_of (drop head_size b)) && (type_known b && parties_good b))
 
 -- whether the fields of a body of a good length are all good
 abbrev pub fields_good : List ℕ → Bool

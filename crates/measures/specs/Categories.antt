@@ -1,14 +1,10 @@
 -- The categories of an invoice.
 use Rattle.std.specs.Prelude.{ℕ, zero, suc, ◌+◌, ◌/◌, Bool, ◌&&◌, List, [], ◌∷◌, length, drop, nat_le, slice_index}
+use Rattle.std.specs.List.{list_all}
 use Rattle.octets.specs.Big.{big}
 use Rattle.octets.specs.Parts.{part}
-use Rattle.measures.specs.Lists.{every}
+use Rattle.measures.specs.declared.categories.Category.{Category}
 use Rattle.measures.specs.Sizes.{category_size, amount_size, id_count}
-
--- a category: its id and its amount
-pub record Category : Type 0 where
-  pub id : ℕ
-  pub amount : ℕ
 
 -- a category by its id and amount
 abbrev pub category : ℕ → ℕ → Category
@@ -33,4 +29,4 @@ id_known id = nat_le 1 id && nat_le id id_count
 
 -- whether the id of every category is known
 abbrev pub ids_known : List Category → Bool
-ids_known cs = every (λ c. id_known c.id) cs
+ids_known cs = list_all (λ c. id_known c.id) cs

@@ -1,7 +1,8 @@
 -- The numbers of each measure after an invoice.
 use Rattle.std.specs.Prelude.{ℕ, ◌+◌, ◌-◌, ◌^◌, Bool, cond, ◌&&◌, List, [], ◌∷◌, Some, None, Option, nat_le, slice_index, slice_set}
-use Rattle.measures.specs.Lists.{every}
-use Rattle.measures.specs.Categories.{Category, categories_of, id_known, ids_known}
+use Rattle.std.specs.List.{list_all}
+use Rattle.measures.specs.declared.categories.Category.{Category}
+use Rattle.measures.specs.Categories.{categories_of, id_known, ids_known}
 
 -- the largest count
 abbrev pub number_ceiling : ℕ
@@ -38,7 +39,7 @@ row_added (c ∷ cs) row = row_added cs (category_added c row)
 
 -- a row after categories: none where an id is foreign or a number comes above the ceiling
 abbrev pub row_after : List Category → List ℕ → Option (List ℕ)
-row_after cs row = cond (ids_known cs && every (λ n. nat_le n money_ceiling) (row_added cs row)) (Some (row_added cs row)) None
+row_after cs row = cond (ids_known cs && list_all (λ n. nat_le n money_ceiling) (row_added cs row)) (Some (row_added cs row)) None
 
 -- a row after an invoice
 abbrev pub row_counted : List ℕ → ℕ → List ℕ → Option (List ℕ)

@@ -1,6 +1,6 @@
 -- Identifiers: zeros on the left, and then text.
 use Rattle.std.specs.Prelude.{ℕ, Bool, cond, ◌&&◌, List, [], ◌∷◌, length, ◌==◌, nat_le, nat_lt}
-use Rattle.measures.specs.Lists.{every}
+use Rattle.std.specs.List.{list_all}
 use Rattle.measures.specs.Sizes.{identifier_size}
 
 -- whether a byte is text, from the space to the tilde
@@ -14,7 +14,7 @@ unpadded (b ∷ bs) = cond (b == 0) (unpadded bs) (b ∷ bs)
 
 -- whether bytes are a good identifier
 abbrev pub identifier : List ℕ → Bool
-identifier bs = length bs == identifier_size && every text (unpadded bs)
+identifier bs = length bs == identifier_size && list_all text (unpadded bs)
 
 -- whether bytes are not all zero
 abbrev pub named : List ℕ → Bool

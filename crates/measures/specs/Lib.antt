@@ -1,5 +1,4 @@
 pub mod Sizes
-pub mod Lists
 pub mod Identifiers
 pub mod Categories
 pub mod Bodies

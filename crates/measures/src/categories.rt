@@ -1,52 +1,51 @@
 // The categories in the bytes of an invoice: the id of one byte, and the amount of seven.
-ghost use Rattle.std.specs.Prelude.{◌≡◌, ◌+◌, ◌*◌, ◌/◌, ◌≤◌, length, slice_index};
-ghost use Rattle.octets.specs.Big.{big};
-ghost use Rattle.octets.specs.Parts.{part};
-ghost use Rattle.measures.specs.Sizes.{category_size, amount_size};
-ghost use Rattle.measures.specs.Categories.{categories_of, id_known, ids_known};
+ghost use Rattle.std.specs.Prelude.{◌≡◌, map};
+ghost use Rattle.measures.specs.Categories.{category_at, categories_of, id_known, ids_known};
 
 use crate::sizes::{CATEGORY_SIZE, ID_COUNT};
 use octets::read_be;
 
-// How many categories bytes hold.
-pub(crate) fn category_count(bytes: &[u8]) -> usize
-    ensures { result ≡ length bytes.now / category_size }
-{
-    bytes.len() / CATEGORY_SIZE
+#[derive(Clone, Copy)]
+pub struct Category {
+    pub id: u8,
+    pub amount: u64,
 }
 
-// The id of the category at a place.
-pub(crate) fn id_at(bytes: &[u8], place: usize) -> u8
-    requires { category_size * place + category_size ≤ length bytes.now }
-    ensures { result ≡ slice_index bytes.now (category_size * place) }
-{
-    bytes[CATEGORY_SIZE * place]
+impl Category {
+    // Whether the id is one of those that a category can have.
+    pub(crate) fn is_known(&self) -> bool
+        ensures { result ≡ id_known self.now.id }
+    {
+        (1..=ID_COUNT).contains(&usize::from(self.id))
+    }
 }
 
-// The amount of the category at a place.
-pub(crate) fn amount_at(bytes: &[u8], place: usize) -> u64
-    requires { category_size * place + category_size ≤ length bytes.now }
-    ensures { result ≡ big (part (category_size * place + 1) amount_size bytes.now) }
-{
-    let at = CATEGORY_SIZE * place;
-    read_be(&bytes[at + 1..at + CATEGORY_SIZE]).unwrap()
+// The category in its bytes.
+impl From<&[u8; CATEGORY_SIZE]> for Category {
+    ghost from_gives = { λ b c. c ≡ category_at 0 b.now };
+
+    fn from(bytes: &[u8; CATEGORY_SIZE]) -> Category {
+        Category {
+            id: bytes[0],
+            amount: read_be(&bytes[1..]).unwrap(),
+        }
+    }
 }
 
-// Whether an id is one of those that a category can have.
-pub(crate) fn is_known_id(id: u8) -> bool
-    ensures { result ≡ id_known id }
+// The bytes of each category; those at the end that are fewer than a category has are left out.
+pub(crate) fn each_category(bytes: &[u8]) -> &[[u8; CATEGORY_SIZE]]
+    ensures { map (category_at 0) result.now ≡ categories_of bytes.now }
 {
-    1 <= id && usize::from(id) <= ID_COUNT
+    let (categories, _) = bytes.as_chunks();
+    categories
 }
 
 // Whether the id of every category is known.
-pub(crate) fn are_ids_known(bytes: &[u8]) -> bool
-    ensures { result ≡ ids_known (categories_of bytes.now) }
+pub(crate) fn are_ids_known(categories: &[[u8; CATEGORY_SIZE]]) -> bool
+    ensures { result ≡ ids_known (map (category_at 0) categories.now) }
 {
-    for i in 0..category_count(bytes) {
-        if !is_known_id(id_at(bytes, i)) {
-            return false;
-        }
-    }
-    true
+    categories
+        .iter()
+        .map(Category::from)
+        .all(|category| category.is_known())
 }

@@ -1,7 +1,7 @@
 // Identifiers: zeros on the left, and then text.
-ghost use Rattle.std.specs.Prelude.{◌≡◌, ◌≤◌, length, drop};
+ghost use Rattle.std.specs.Prelude.{◌≡◌};
+ghost use Rattle.std.specs.List.{list_all};
 ghost use Rattle.measures.specs.Identifiers.{text, unpadded, identifier, named};
-ghost use Rattle.measures.specs.Lists.{every};
 
 use crate::sizes::IDENTIFIER_SIZE;
 
@@ -9,58 +9,37 @@ use crate::sizes::IDENTIFIER_SIZE;
 pub fn is_identifier(bytes: &[u8]) -> bool
     ensures { result ≡ identifier bytes.now }
 {
-    bytes.len() == IDENTIFIER_SIZE && is_padded_text(bytes)
+    bytes.len() == IDENTIFIER_SIZE && are_text(without_zeros(bytes))
 }
 
 // Whether bytes are not all zero.
 pub(crate) fn is_named(bytes: &[u8]) -> bool
     ensures { result ≡ named bytes.now }
 {
-    without_zeros(bytes).len() > 0
-}
-
-// Whether only text follows the zeros on the left.
-fn is_padded_text(bytes: &[u8]) -> bool
-    ensures { result ≡ every text (unpadded bytes.now) }
-{
-    is_text(without_zeros(bytes))
+    !without_zeros(bytes).is_empty()
 }
 
 // The bytes without the zeros on their left.
 fn without_zeros(bytes: &[u8]) -> &[u8]
     ensures { result.now ≡ unpadded bytes.now }
 {
-    &bytes[padding(bytes)..]
-}
-
-// How many zeros stand on the left.
-fn padding(bytes: &[u8]) -> usize
-    ensures within { result ≤ length bytes.now }
-    ensures value { drop result bytes.now ≡ unpadded bytes.now }
-{
-    for i in 0..bytes.len() {
-        if bytes[i] != 0 {
-            return i;
-        }
+    let mut rest = bytes;
+    while let [0, after @ ..] = rest {
+        rest = after;
     }
-    bytes.len()
+    rest
 }
 
 // Whether all bytes are text.
-fn is_text(bytes: &[u8]) -> bool
-    ensures { result ≡ every text bytes.now }
+fn are_text(bytes: &[u8]) -> bool
+    ensures { result ≡ list_all text bytes.now }
 {
-    for b in bytes {
-        if !is_text_byte(*b) {
-            return false;
-        }
-    }
-    true
+    bytes.iter().all(|b| is_text(*b))
 }
 
 // Whether a byte is text.
-fn is_text_byte(b: u8) -> bool
+fn is_text(b: u8) -> bool
     ensures { result ≡ text b }
 {
-    0x20 <= b && b <= 0x7e
+    matches!(b, b' '..=b'~')
 }

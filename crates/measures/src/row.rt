@@ -1,99 +1,46 @@
 // A row of sums, one for each category id.
-ghost use Rattle.std.specs.Prelude.{◌≡◌, true, false, length, Some, None};
-ghost use Rattle.measures.specs.Categories.{category, categories_of};
-ghost use Rattle.measures.specs.Sizes.{id_count};
-ghost use Rattle.measures.specs.Counted.{category_fits, category_added, row_after, row_counted};
+ghost use Rattle.std.specs.Prelude.{◌≡◌, Some};
+ghost use Rattle.std.specs.Bool.{then_some};
+ghost use Rattle.std.specs.Option.{option_map};
+ghost use Rattle.measures.specs.Categories.{categories_of};
+ghost use Rattle.measures.specs.Counted.{category_fits, category_added, row_after};
 
-use crate::categories::{amount_at, category_count, id_at, is_known_id};
-use crate::invoices::Invoice;
-use crate::measures::Measure;
+use crate::categories::{Category, each_category};
 use crate::sizes::ID_COUNT;
+use crate::sums::Sum;
 
-#[derive(Clone, Copy)]
-pub struct Row {
-    values: [u64; ID_COUNT],
-}
+// A row of sums, that of id 1 first.
+pub type Row = Sum<[u64; ID_COUNT]>;
 
 impl Row {
-    // A row that stands at these numbers, that of id 1 first.
-    pub fn new(values: [u64; ID_COUNT]) -> Row
-        ensures { result.values ≡ values }
-    {
-        Row { values }
-    }
-
-    // The numbers at which the row stands, that of id 1 first.
+    // The numbers at which the row stands, that of id 1 first: its value, by the name that says how many.
     pub fn values(&self) -> [u64; ID_COUNT]
-        ensures { result ≡ self.now.values }
+        ensures { result ≡ self.now.value }
     {
-        let Row { values } = *self;
-        values
-    }
-
-    // The values after all categories; none where one does not fit.
-    fn added(&self, bytes: &[u8]) -> Option<[u64; ID_COUNT]>
-        ensures { result ≡ row_after (categories_of bytes.now) self.now.values }
-    {
-        let mut row = self.values;
-        if add_all(&mut row, bytes) {
-            Some(row)
-        } else {
-            None
-        }
+        self.value()
     }
 }
 
-// Adds all categories to a row, and says whether they fit; where one does not, those before it are added.
-fn add_all(row: &mut [u64], bytes: &[u8]) -> bool
-    requires { length row.old ≡ id_count }
-    ensures fits { result ≡ true → Some row.new ≡ row_after (categories_of bytes.now) row.old }
-    ensures full { result ≡ false → None ≡ row_after (categories_of bytes.now) row.old }
+// Adds all categories to the numbers of their ids; none where one does not fit, and then those before it are added.
+pub(crate) fn add_all(values: &mut [u64; ID_COUNT], bytes: &[u8]) -> Option<()>
+    ensures { option_map (λ _. values.new) result ≡ row_after (categories_of bytes.now) values.old }
 {
-    for i in 0..category_count(bytes) {
-        if !add_category(row, id_at(bytes, i), amount_at(bytes, i)) {
-            return false;
-        }
+    for category in each_category(bytes) {
+        add_category(values, Category::from(category))?;
     }
-    true
+    Some(())
 }
 
-// Adds an amount to the number of its id, and says whether it fits; where it does not, nothing is added.
-fn add_category(row: &mut [u64], id: u8, amount: u64) -> bool
-    requires { length row.old ≡ id_count }
-    ensures value { result ≡ category_fits (category id amount) row.old }
-    ensures after { result ≡ true → row.new ≡ category_added (category id amount) row.old }
+// Adds a category's amount to the number of its id; none where it does not fit, and then nothing is added.
+fn add_category(values: &mut [u64; ID_COUNT], category: Category) -> Option<()>
+    ensures value { result ≡ then_some (category_fits category values.old) tt }
+    ensures after { result ≡ Some tt → values.new ≡ category_added category values.old }
 {
-    if !is_known_id(id) {
-        return false;
+    if !category.is_known() {
+        return None;
     }
-    let place = usize::from(id) - 1;
-    let Some(sum) = row[place].checked_add(amount) else {
-        return false;
-    };
-    row[place] = sum;
-    true
-}
-
-impl Measure for Row {
-    ghost count = { id_count };
-
-    ghost numbers = { λ m. m.values };
-
-    ghost counted = { row_counted };
-
-    fn zero() -> Row {
-        Row {
-            values: [0; ID_COUNT],
-        }
-    }
-
-    fn fits(&self, invoice: &Invoice) -> bool {
-        self.added(invoice.categories).is_some()
-    }
-
-    fn add(&mut self, invoice: &Invoice) {
-        if let Some(values) = self.added(invoice.categories) {
-            self.values = values;
-        }
-    }
+    let place = usize::from(category.id) - 1;
+    let sum = values[place].checked_add(category.amount)?;
+    values[place] = sum;
+    Some(())
 }

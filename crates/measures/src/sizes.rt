@@ -25,6 +25,9 @@ pub const AMOUNT_AT: usize = 50;
 
 pub const COUNT_AT: usize = 57;
 
+// The bytes of an amount.
+pub const AMOUNT_SIZE: usize = COUNT_AT - AMOUNT_AT;
+
 // The largest type.
 pub const LAST_TYPE: u8 = 4;
 

@@ -1,4 +1,7 @@
 // Commands that the host side builds, and how each is read back.
+ghost use Rattle.std.specs.Prelude.{◌≤◌, length, IfOk};
+
+use host::BuildFault;
 use host_words::BuildWords;
 
 // The bytes of the longest command that is built.
@@ -16,18 +19,23 @@ const INVOICE: &[u8] = b"\x00\x00\x01\x8f\x2b\x6c\x1c\x00\
 
 // Builds each of the nine commands, and then some that are refused: each reason once.
 pub(crate) fn show_host(rt: &HostRuntime) -> anyhow::Result<()> {
-    show_build(rt, 0xa4, NAME)?;
-    show_build(rt, 0x08, &[])?;
-    show_build(rt, 0x16, &[])?;
-    show_build(rt, 0x14, &[])?;
-    show_build(rt, 0x15, &[])?;
-    show_build(rt, 0x11, b"1234")?;
-    show_build(rt, 0x13, INVOICE)?;
-    show_build(rt, 0x12, &[])?;
-    show_build(rt, 0x40, &[0; 512])?;
-    show_build(rt, 0x99, &[])?;
-    show_build(rt, 0xa4, &[0; 17])?;
-    show_build(rt, 0x13, &[0; 58])?;
+    let shown: [(u8, &[u8]); 12] = [
+        (0xa4, NAME),
+        (0x08, &[]),
+        (0x16, &[]),
+        (0x14, &[]),
+        (0x15, &[]),
+        (0x11, b"1234"),
+        (0x13, INVOICE),
+        (0x12, &[]),
+        (0x40, &[0; 512]),
+        (0x99, &[]),
+        (0xa4, &[0; 17]),
+        (0x13, &[0; 58]),
+    ];
+    for (instruction, body) in shown {
+        show_build(rt, instruction, body)?;
+    }
     build_into(rt, 0x08, &[], &mut [0; 4])
 }
 
@@ -43,11 +51,18 @@ fn build_into(
     body: &[u8],
     out: &mut [u8],
 ) -> anyhow::Result<()> {
-    let result = host::compose(instruction, body, out);
+    let len = host::compose(instruction, body, out);
     let words = BuildWords {
         instruction,
-        result,
-        buffer: out,
+        result: command_in(out, len),
     };
     Ok(println!(rt; "{words}")?)
+}
+
+// The command that was written to the beginning of a buffer, or why none was. A function of its own: one arm of a match
+// cannot lend a part of the buffer.
+fn command_in(buffer: &[u8], len: Result<usize, BuildFault>) -> Result<&[u8], BuildFault>
+    requires { IfOk len (λ n. n ≤ length buffer.now) }
+{
+    Ok(&buffer[..len?])
 }

@@ -14,7 +14,7 @@ use building::{show_build, show_host};
 use host_words::AnswerWords;
 use readout::Readout;
 use show::show_image;
-use tasks::{Task, Words};
+use tasks::Task;
 
 const HELP: &str = "migdurk: the emulated fiscal card on the command line
 
@@ -58,16 +58,13 @@ fn run(rt: &HostRuntime) -> anyhow::Result<()> {
 
 // The tasks that the arguments ask for; or what is wrong with them.
 fn read_tasks(rt: &HostRuntime) -> anyhow::Result<Vec<Task>> {
-    let mut arguments = env::args(rt)?;
-    let _program = arguments.next();
-    let mut words = Words::new();
+    let mut words = Vec::new(rt.alloc());
+    words.extend(env::args(rt)?.skip(1))?;
+    let mut words = words.iter();
     let mut tasks = Vec::new(rt.alloc());
-    for word in arguments {
-        if let Some(task) = words.take(rt.alloc(), word.as_str())? {
-            tasks.push(task)?;
-        }
+    while let Some(word) = words.next() {
+        tasks.push(Task::read(rt.alloc(), word, &mut words)?)?;
     }
-    words.end()?;
     Ok(tasks)
 }
 
@@ -91,10 +88,9 @@ fn obey(rt: &HostRuntime, task: Task) -> anyhow::Result<()> {
 
 // Prints how each line of standard input is read, and then how many lines of each sort there were.
 fn read_commands(rt: &HostRuntime) -> anyhow::Result<()> {
-    let mut number: u64 = 0;
-    let mut readout = Readout::new();
-    for line in BufReader::new(rt.alloc(), rt.stdin())?.split(rt.alloc(), b'\n') {
-        number = number.saturating_add(1);
+    let mut readout = Readout::default();
+    let lines = BufReader::new(rt.alloc(), rt.stdin())?.split(rt.alloc(), b'\n');
+    for (number, line) in (1u64..).zip(lines) {
         readout.line(rt, number, &line?)?;
     }
     Ok(println!(rt; "{readout}")?)

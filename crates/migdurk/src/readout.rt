@@ -1,10 +1,11 @@
 // How commands are read, in words.
 use crate::lines::uncommented;
-use host_words::CommandWords;
+use host_words::{CommandWords, Refused};
 use std::fmt;
 
-// How many lines of each sort there were.
-#[derive(Drop)]
+// How many lines of each sort there were. Counted by hand: each line is printed as it is read, so no list is there to
+// count.
+#[derive(Default, Drop)]
 pub(crate) struct Readout {
     commands: u64,
     no_commands: u64,
@@ -12,14 +13,6 @@ pub(crate) struct Readout {
 }
 
 impl Readout {
-    pub(crate) fn new() -> Readout {
-        Readout {
-            commands: 0,
-            no_commands: 0,
-            no_hexadecimal: 0,
-        }
-    }
-
     // Prints how a line is read; one with nothing but blanks and a comment is passed over.
     pub(crate) fn line(
         &mut self,
@@ -28,7 +21,7 @@ impl Readout {
         line: &[u8],
     ) -> anyhow::Result<()> {
         let text = uncommented(line).trim_ascii();
-        if text.len() == 0 {
+        if text.is_empty() {
             return Ok(());
         }
         match hex_text::decode(rt.alloc(), text) {
@@ -50,11 +43,8 @@ impl Readout {
             }
             Err(fault) => {
                 self.no_commands = self.no_commands.saturating_add(1);
-                let refusal = fault.refusal();
-                let code = refusal.number();
-                Ok(println!(rt;
-                    "line {number}: no command, refused with {code} ({refusal}): {fault}"
-                )?)
+                let refused = Refused::by(fault);
+                Ok(println!(rt; "line {number}: no command, {refused}")?)
             }
         }
     }

@@ -1,6 +1,9 @@
 // What the words of the command line ask for.
-use anyhow::anyhow;
+ghost use Rattle.std.specs.Prelude.{◌≤◌, length};
+
+use anyhow::{Context, anyhow, bail};
 use std::alloc::Global;
+use std::slice::Iter;
 
 #[derive(Drop)]
 pub(crate) enum Task {
@@ -12,100 +15,64 @@ pub(crate) enum Task {
     Answer(u8, Vec<u8>),
 }
 
-// A task that an instruction and bytes follow.
-#[derive(Clone, Copy)]
-enum Job {
-    Build,
-    Answer,
-}
-
-// The word that comes next.
-#[derive(Clone, Copy)]
-enum Awaited {
-    Task,
-    Instruction(Job),
-    Bytes(Job, u8),
-}
-
-// The words of the command line, one after the other.
-#[derive(Drop)]
-pub(crate) struct Words {
-    awaited: Awaited,
-}
-
-impl Words {
-    pub(crate) fn new() -> Words {
-        Words {
-            awaited: Awaited::Task,
-        }
-    }
-
-    // Takes the next word, and gives the task that is complete with it, if one is.
-    pub(crate) fn take(&mut self, heap: Global, word: &str) -> anyhow::Result<Option<Task>> {
-        match self.awaited {
-            Awaited::Task => self.start(heap, word),
-            Awaited::Instruction(job) => {
-                let instruction = instruction_in(heap, word)?;
-                self.awaited = Awaited::Bytes(job, instruction);
-                Ok(None)
-            }
-            Awaited::Bytes(job, instruction) => {
-                let bytes = bytes_in(heap, word)?;
-                self.awaited = Awaited::Task;
-                Ok(Some(match job {
-                    Job::Build => Task::Build(instruction, bytes),
-                    Job::Answer => Task::Answer(instruction, bytes),
-                }))
-            }
-        }
-    }
-
-    // Takes the first word of a task.
-    fn start(&mut self, heap: Global, word: &str) -> anyhow::Result<Option<Task>> {
+impl Task {
+    // The task of a word, with what it wants of the words behind it.
+    pub(crate) fn read(
+        heap: Global,
+        word: &str,
+        rest: &mut Iter<'_, String>,
+    ) -> anyhow::Result<Task>
+        ensures { length rest.new.rest.now ≤ length rest.old.rest.now }
+    {
         match word {
-            "read" => Ok(Some(Task::Read)),
-            "image" => Ok(Some(Task::Image)),
-            "host" => Ok(Some(Task::Host)),
-            "help" | "--help" | "-h" => Ok(Some(Task::Help)),
+            "read" => Ok(Task::Read),
+            "image" => Ok(Task::Image),
+            "host" => Ok(Task::Host),
+            "help" | "--help" | "-h" => Ok(Task::Help),
+            // Two like arms: one for both would have to be told which task it makes.
             "build" => {
-                self.awaited = Awaited::Instruction(Job::Build);
-                Ok(None)
+                let (instruction, body) = instruction_and_bytes(
+                    heap,
+                    rest,
+                    "'build' wants an instruction and a body: try 'migdurk help'",
+                )?;
+                Ok(Task::Build(instruction, body))
             }
             "answer" => {
-                self.awaited = Awaited::Instruction(Job::Answer);
-                Ok(None)
+                let (instruction, response) = instruction_and_bytes(
+                    heap,
+                    rest,
+                    "'answer' wants an instruction and a response: try 'migdurk help'",
+                )?;
+                Ok(Task::Answer(instruction, response))
             }
-            other => Err(anyhow!(format!(in heap; "unknown word '{other}': try 'migdurk help'")?)),
+            other => bail!("unknown word '{other}': try 'migdurk help'"),
         }
     }
+}
 
-    // Tells of a task that lacks a word.
-    pub(crate) fn end(&self) -> anyhow::Result<()> {
-        match self.awaited {
-            Awaited::Task => Ok(()),
-            Awaited::Instruction(Job::Build) | Awaited::Bytes(Job::Build, _) => {
-                Err(anyhow!("'build' wants an instruction and a body: try 'migdurk help'"))
-            }
-            Awaited::Instruction(Job::Answer) | Awaited::Bytes(Job::Answer, _) => {
-                Err(anyhow!("'answer' wants an instruction and a response: try 'migdurk help'"))
-            }
-        }
-    }
+// The instruction and the bytes that the next two words write; or what is wanted, where a word lacks.
+fn instruction_and_bytes(
+    heap: Global,
+    words: &mut Iter<'_, String>,
+    wanted: &str,
+) -> anyhow::Result<(u8, Vec<u8>)>
+    ensures { length words.new.rest.now ≤ length words.old.rest.now }
+{
+    let instruction = instruction_in(heap, words.next().context(wanted)?)?;
+    let bytes = bytes_in(heap, words.next().context(wanted)?)?;
+    Ok((instruction, bytes))
 }
 
 // The bytes that a word writes in hexadecimal.
 fn bytes_in(heap: Global, word: &str) -> anyhow::Result<Vec<u8>> {
-    match hex_text::decode(heap, word.as_bytes()) {
-        Ok(bytes) => Ok(bytes),
-        Err(e) => Err(anyhow!(format!(in heap; "'{word}' is not hexadecimal: {e}")?)),
-    }
+    hex_text::decode(heap, word.as_bytes()).map_err(|e| anyhow!("'{word}' is not hexadecimal: {e}"))
 }
 
 // The one byte that a word writes in hexadecimal.
 fn instruction_in(heap: Global, word: &str) -> anyhow::Result<u8> {
-    let bytes = bytes_in(heap, word)?;
-    match bytes.as_slice() {
+    match bytes_in(heap, word)?.as_slice() {
         [instruction] => Ok(*instruction),
-        _ => Err(anyhow!(format!(in heap; "'{word}' is no instruction: it takes one byte")?)),
+        _ => bail!("'{word}' is no instruction: it takes one byte"),
     }
 }

@@ -1,5 +1,5 @@
 -- Numbers of several bytes: how long they are, what they read back as, and their lowest bytes.
-use Rattle.std.proofs.Common.{◌≡◌, ℕ, zero, suc, ◌+◌, ◌-◌, ◌*◌, ◌/◌, ◌%◌, ◌^◌, ◌<◌, ◌≤◌, List, [], ◌∷◌, length, take, drop, refl, ap, ◌∙◌, mod-eq_of_lt, mul_assoc, add-mul, arith, lit<, take_all}
+use Rattle.std.proofs.Common.{◌≡◌, ℕ, zero, suc, ◌+◌, ◌-◌, ◌*◌, ◌/◌, ◌%◌, ◌^◌, ◌<◌, ◌≤◌, List, [], ◌∷◌, length, take, drop, sym, refl, ap, ◌∙◌, mod-eq_of_lt, mul_assoc, add-mul, arith, lit<, take_all}
 use native.Mathlib.Nat.{mod-one, pow-succ', pow-le-pow_right, mul-add-div_right, mul-add-mod_self_right}
 use lib.Arith.{mod-mul, digits_div}
 use Rattle.std.proofs.lemmas.List.{length-drop}
@@ -70,6 +70,10 @@ be-big (b ∷ c ∷ bs) u =
     let v : big (b ∷ rest) ≡ b * C + big rest = number_from_digits_after-place rest (0 * 256 + b) ∙ ap (λ n. n * C + big rest) (omega arith) in
     let high : (b * C + big rest) / C % 256 ≡ b = ap (λ q. q % 256) (digits_div b small) ∙ mod-eq_of_lt u.0 in
     ap (be (suc (suc (length bs)))) v ∙ ap (λ d. d ∷ be (suc (length bs)) (b * C + big rest)) high ∙ ap (λ l. b ∷ l) (be_above (suc (length bs)) b (big rest) ∙ be-big (c ∷ bs) u.1)
+
+-- the same of bytes of a known length
+pub be-big_of : (k : ℕ) (bs : List ℕ) → length bs ≡ k → AllBelowBase 256 bs → be k (big bs) ≡ bs
+be-big_of k bs len u = ap (λ n. be n (big bs)) (sym len) ∙ be-big bs u
 
 -- the k lowest of n bytes
 pub drop-be : (d k n v : ℕ) → n ≡ d + k → drop d (be n v) ≡ be k v

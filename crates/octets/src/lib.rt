@@ -1,9 +1,27 @@
 // Numbers of several bytes, the highest byte first, and copies into a part of a buffer.
 #![tactic(auto)]
 
-ghost use Rattle.std.specs.Prelude.{◌≡◌, ℕ, ◌+◌, ◌-◌, ◌*◌, ◌^◌, ◌<◌, ◌≤◌, true, length, Some, nat_le};
+ghost use Rattle.std.specs.Prelude.{◌≡◌, ℕ, ◌^◌, ◌<◌, ◌≤◌, length, Some, Ok};
 ghost use Rattle.octets.specs.Big.{be, big, number_read, writable, number_written};
-ghost use Rattle.octets.specs.Parts.{inside, overwritten, copied};
+ghost use Rattle.octets.specs.Fits.{fits, no_fit_text};
+ghost use Rattle.octets.specs.Parts.{inside, copied};
+
+use std::error::Error;
+use std::fmt;
+
+// What is to be written does not fit its place, in which nothing is written then.
+#[derive(Clone, Copy, PartialEq, Eq, Debug)]
+pub struct DoesNotFit;
+
+impl fmt::Display for DoesNotFit {
+    ghost output = { λ _. Some no_fit_text };
+
+    fn fmt<W: fmt::Write>(&self, f: &mut fmt::Formatter<W>) -> fmt::Result {
+        f.pad("does not fit")
+    }
+}
+
+impl Error for DoesNotFit {}
 
 // The number that bytes write, of any width up to eight bytes; none for more.
 pub fn read_be(bytes: &[u8]) -> Option<u64>
@@ -11,6 +29,7 @@ pub fn read_be(bytes: &[u8]) -> Option<u64>
     ensures bound { (v : ℕ) → result ≡ Some v → v < 256 ^ length bytes.now }
     ensures back { (v : ℕ) → result ≡ Some v → be (length bytes.now) v ≡ bytes.now }
 {
+    // Not by `then`: that there are at most eight bytes is not known in a closure.
     if bytes.len() > 8 {
         None
     } else {
@@ -32,18 +51,18 @@ fn value_of(bytes: &[u8]) -> u64
     v
 }
 
-// Writes a number over the whole of `out`, of any width up to eight bytes, and says whether it did:
-// one that needs more bytes, or a wider `out`, is refused, and leaves `out` as it was.
-pub fn write_be(out: &mut [u8], v: u64) -> bool
-    ensures value { result ≡ writable (length out.old) v }
+// Writes a number over the whole of `out`, of any width up to eight bytes. One that needs more bytes, or a wider `out`,
+// is refused, and leaves `out` as it was.
+pub fn write_be(out: &mut [u8], v: u64) -> Result<(), DoesNotFit>
+    ensures value { result ≡ fits (writable (length out.old) v) }
     ensures after { out.new ≡ number_written v out.old }
-    ensures back { result ≡ true → number_read out.new ≡ Some v }
+    ensures back { result ≡ Ok tt → number_read out.new ≡ Some v }
 {
     if !has_width(v, out.len()) {
-        return false;
+        return Err(DoesNotFit);
     }
     put_low_bytes(out, v);
-    true
+    Ok(())
 }
 
 // Whether a number can be written into that many bytes.
@@ -51,6 +70,7 @@ fn has_width(v: u64, width: usize) -> bool
     ensures { result ≡ writable width v }
 {
     if width < 8 {
+        // By `as`: the width is below 8.
         v < 256u64.pow(width as u32)
     } else {
         width == 8
@@ -68,30 +88,13 @@ fn put_low_bytes(out: &mut [u8], v: u64)
     out.copy_from_slice(&bytes[8 - width..8]);
 }
 
-// Copies `new` into `buffer` from `at` on, and says whether it did: where there is no room for all of it, nothing is
-// written.
-pub fn copy_at(buffer: &mut [u8], at: usize, new: &[u8]) -> bool
-    ensures value { result ≡ inside at (length new.now) buffer.old }
+// Copies `new` into `buffer` from `at` on. Where there is no room for all of it, it is refused, and nothing is written.
+pub fn copy_at(buffer: &mut [u8], at: usize, new: &[u8]) -> Result<(), DoesNotFit>
+    ensures value { result ≡ fits (inside at (length new.now) buffer.old) }
     ensures after { buffer.new ≡ copied at new.now buffer.old }
 {
-    if !has_room(buffer.len(), at, new.len()) {
-        return false;
-    }
-    overwrite(buffer, at, new);
-    true
-}
-
-// Whether `n` bytes from `at` on lie within `len` bytes.
-fn has_room(len: usize, at: usize, n: usize) -> bool
-    ensures { result ≡ nat_le (at + n) len }
-{
-    at <= len && n <= len - at
-}
-
-// Copies `new` to where there is room for it.
-fn overwrite(buffer: &mut [u8], at: usize, new: &[u8])
-    requires { at + length new.now ≤ length buffer.old }
-    ensures { buffer.new ≡ overwritten at new.now buffer.old }
-{
-    buffer[at..at + new.len()].copy_from_slice(new);
+    let (_, rest) = buffer.split_at_mut_checked(at).ok_or(DoesNotFit)?;
+    let (place, _) = rest.split_at_mut_checked(new.len()).ok_or(DoesNotFit)?;
+    place.copy_from_slice(new);
+    Ok(())
 }

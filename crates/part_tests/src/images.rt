@@ -1,6 +1,6 @@
 // Images: personalisation, soundness, and the fields read and written.
 use crate::shared::{count_up, put, same};
-use image::{Flaw, Image, LastAnswer, personalise};
+use image::{Flaw, Image, personalise};
 use status::CallError;
 use std::process::Abort;
 use std::test::Fail;
@@ -53,7 +53,8 @@ fn largest_limit_and_key_version(rt: HostRuntime) {
     assert_eq!(rt; Image::read(&out).err(), None);
 }
 
-// Checks that personalisation refuses, and leaves the buffer.
+// Checks that personalisation refuses, and leaves the buffer. The copy is given: with a size N and both buffers made
+// here, it did not prove that they can be lent.
 fn refuses(
     rt: &impl Abort,
     pin: &[u8],
@@ -103,10 +104,8 @@ fn fields_of_a_first_image(rt: HostRuntime) -> Result<(), Fail> {
     assert_eq!(rt; (image.limit, image.key_version), (1000000, 7));
     assert_eq!(rt; (image.pin, image.tries), ([0x31, 0x32, 0x33, 0x34], 5));
     assert!(rt; image.mark.is_none());
-    match image.last {
-        LastAnswer::Nothing => Ok(()),
-        LastAnswer::Signed(_) => Err(Fail::new("an answer")),
-    }
+    assert!(rt; image.last.is_none());
+    Ok(())
 }
 
 #[test]
@@ -130,13 +129,9 @@ fn counts_of_a_used_image(rt: HostRuntime) -> Result<(), Fail> {
 #[test]
 fn mark_and_last_answer_of_a_used_image(rt: HostRuntime) -> Result<(), Fail> {
     let image = Image::read(&used())?;
-    let Some(mark) = image.mark else {
-        return Err(Fail::new("no mark"));
-    };
+    let mark = image.mark.ok_or("no mark")?;
     assert_eq!(rt; (mark.counter, mark.amount), (2, 1000));
-    let LastAnswer::Signed(answer) = image.last else {
-        return Err(Fail::new("no answer"));
-    };
+    let answer = image.last.ok_or("no answer")?;
     let mut expected = [0; 577];
     count_up(&mut expected, 5);
     same(&rt, &answer, &expected);

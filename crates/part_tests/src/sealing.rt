@@ -8,31 +8,45 @@ use std::test::Fail;
 // The bytes 00 01 02 and so on to FF.
 fn ladder() -> [u8; 256] {
     let mut bytes = [0; 256];
-    for i in 0..256usize {
-        bytes[i] = i as u8;
+    for (byte, number) in bytes.iter_mut().zip(0..=255u8) {
+        *byte = number;
     }
     bytes
 }
 
-// Checks the first bytes and the last ones of an answer of 256 bytes.
-fn ends(rt: &impl Abort, answer: &[u8], first: &[u8], last: &[u8]) {
-    assert_eq!(rt; answer.len(), 256);
-    same(rt, part(answer, 0, 8), first);
-    same(rt, part(answer, 252, 4), last);
+// Checks the first bytes and the last ones of the answer that a call writes.
+fn ends<C: Fn(&mut [u8]) -> Result<bool, CallError>>(
+    rt: &impl Abort,
+    call: C,
+    first: &[u8],
+    last: &[u8],
+)
+    requires { C.IsAlwaysCallable call }
+{
+    let mut out = [0xee; 256];
+    assert_eq!(rt; call(&mut out), Ok(true));
+    same(rt, &out[..8], first);
+    same(rt, &out[252..], last);
 }
 
 // Checks the bench seal of a message.
 fn seals(rt: &impl Abort, key: u32, message: &[u8], first: &[u8], last: &[u8]) {
-    let mut out = [0xee; 256];
-    assert_eq!(rt; BenchSealer::new(key).seal(message, &mut out), Ok(true));
-    ends(rt, &out, first, last);
+    ends(
+        rt,
+        |out| BenchSealer::new(key).seal(message, out),
+        first,
+        last,
+    );
 }
 
 // Checks the bench cover of a block.
 fn covers(rt: &impl Abort, key: u32, block: &[u8], first: &[u8], last: &[u8]) {
-    let mut out = [0xee; 256];
-    assert_eq!(rt; BenchSealer::new(key).cover(block, &mut out), Ok(true));
-    ends(rt, &out, first, last);
+    ends(
+        rt,
+        |out| BenchSealer::new(key).cover(block, out),
+        first,
+        last,
+    );
 }
 
 #[test]
@@ -173,13 +187,14 @@ fn long_buffer_keeps_its_tail(rt: HostRuntime) {
     let mut bench = BenchSealer::new(0x01020304);
     let mut out = [0xee; 300];
     assert_eq!(rt; bench.cover(&[0; 256], &mut out), Ok(true));
-    same(&rt, part(&out, 254, 4), &[0x03, 0x04, 0xee, 0xee]);
+    same(&rt, &out[254..258], &[0x03, 0x04, 0xee, 0xee]);
     assert_eq!(rt; bench.seal(&[], &mut out), Ok(true));
-    same(&rt, part(&out, 254, 4), &[0x5d, 0x2a, 0xee, 0xee]);
-    same(&rt, part(&out, 256, 44), &[0xee; 44]);
+    same(&rt, &out[254..258], &[0x5d, 0x2a, 0xee, 0xee]);
+    same(&rt, &out[256..], &[0xee; 44]);
 }
 
-// Puts an entry in a deck, with an answer of one byte all over.
+// Puts an entry in a deck, with an answer of one byte all over. By its place: of a deck of three entries, each put in a
+// part of the deck, the bounds of the parts did not prove.
 fn put_entry(deck: &mut [u8], at: usize, kind: u8, message: &[u8], answer: u8) {
     put(deck, at, &[kind]);
     put(deck, at.saturating_add(1), message);
@@ -189,23 +204,25 @@ fn put_entry(deck: &mut [u8], at: usize, kind: u8, message: &[u8], answer: u8) {
 
 // What a deck answers for the cover of a block: the byte that the answer is all over.
 fn cover_in(rt: &impl Abort, deck: &[u8], block: &[u8]) -> Result<Option<u8>, Fail> {
-    let mut out = [0xee; 256];
-    let found = RecordedSealer::new(deck).cover(block, &mut out)?;
-    told(rt, found, &out)
+    told(rt, |out| RecordedSealer::new(deck).cover(block, out))
 }
 
 // What a deck answers for the seal of a message.
 fn seal_in(rt: &impl Abort, deck: &[u8], message: &[u8]) -> Result<Option<u8>, Fail> {
-    let mut out = [0xee; 256];
-    let found = RecordedSealer::new(deck).seal(message, &mut out)?;
-    told(rt, found, &out)
+    told(rt, |out| RecordedSealer::new(deck).seal(message, out))
 }
 
-// The byte that an answer is all over; none leaves the buffer as it was.
-fn told(rt: &impl Abort, found: bool, out: &[u8]) -> Result<Option<u8>, Fail> {
-    let byte = if found && out.len() > 0 { out[0] } else { 0xee };
-    same(rt, out, &[byte; 256]);
-    if found { Ok(Some(byte)) } else { Ok(None) }
+// The byte that the answer of a call is all over; none leaves the buffer as it was.
+fn told<C: Fn(&mut [u8]) -> Result<bool, CallError>>(
+    rt: &impl Abort,
+    call: C,
+) -> Result<Option<u8>, Fail>
+    requires { C.IsAlwaysCallable call }
+{
+    let mut out = [0xee; 256];
+    let byte = call(&mut out)?.then_some(out[0]);
+    same(rt, &out, &[byte.unwrap_or(0xee); 256]);
+    Ok(byte)
 }
 
 #[test]

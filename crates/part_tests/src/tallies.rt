@@ -1,9 +1,11 @@
 // Invoices, the measures that count them, and tallies.
-use crate::shared::{part, put, same};
+use crate::shared::{put, same};
 use ledger::{
     Invoice, Measure, Money, Number, Row, StoredMeasure, Tally, Transaction, is_identifier,
     is_signing_length,
 };
+use measures::{Addend, Sum};
+use octets::DoesNotFit;
 use std::test::Fail;
 
 // A sale of 1500 with three categories: 1000 and 300 for id 1, and 200 for id 3.
@@ -16,6 +18,11 @@ const BODY: [u8; 82] = [
     0x01, 0x2c,
 ];
 
+// The invoice in the body.
+fn invoice() -> Result<Invoice<'static>, Fail> {
+    Ok(Invoice::read(&BODY).ok_or("no invoice")?)
+}
+
 // The transaction and amount of the invoice in the body, with other bytes in it; none where it is malformed.
 fn read_with(at: usize, new: &[u8]) -> Option<(Transaction, u64)> {
     let mut body = BODY;
@@ -26,12 +33,10 @@ fn read_with(at: usize, new: &[u8]) -> Option<(Transaction, u64)> {
 
 #[test]
 fn invoice_of_a_body(rt: HostRuntime) -> Result<(), Fail> {
-    let Some(invoice) = Invoice::read(&BODY) else {
-        return Err(Fail::new("no invoice"));
-    };
+    let invoice = invoice()?;
     assert_eq!(rt; invoice.transaction, Transaction::Sale);
     assert_eq!(rt; invoice.amount, 1500);
-    same(&rt, invoice.categories, part(&BODY, 58, 24));
+    same(&rt, invoice.categories, &BODY[58..]);
     Ok(())
 }
 
@@ -69,8 +74,8 @@ fn bodies_with_bad_identifiers(rt: HostRuntime) {
 
 #[test]
 fn bodies_of_bad_lengths(rt: HostRuntime) {
-    assert!(rt; Invoice::read(part(&BODY, 0, 81)).is_none());
-    assert!(rt; Invoice::read(part(&BODY, 0, 74)).is_none());
+    assert!(rt; Invoice::read(&BODY[..81]).is_none());
+    assert!(rt; Invoice::read(&BODY[..74]).is_none());
     assert!(rt; Invoice::read(&[]).is_none());
     assert!(rt; !is_signing_length(57) && is_signing_length(58) && !is_signing_length(59));
     assert!(rt; is_signing_length(66) && is_signing_length(154) && !is_signing_length(162));
@@ -100,9 +105,7 @@ fn identifiers(rt: HostRuntime) {
 
 #[test]
 fn sale_adds_to_the_counters_and_sums(rt: HostRuntime) -> Result<(), Fail> {
-    let Some(invoice) = Invoice::read(&BODY) else {
-        return Err(Fail::new("no invoice"));
-    };
+    let invoice = invoice()?;
     let mut counters: Tally<Number> = Tally::zero();
     let mut sums: Tally<Money> = Tally::zero();
     assert!(rt; counters.fits(&invoice) && sums.fits(&invoice));
@@ -111,19 +114,17 @@ fn sale_adds_to_the_counters_and_sums(rt: HostRuntime) -> Result<(), Fail> {
     assert_eq!(rt; (counters.sale.value(), counters.refund.value()), (1, 0));
     assert_eq!(rt; (sums.sale.value(), sums.refund.value()), (1500, 0));
     let mut count = [0xee; 8];
-    assert!(rt; counters.write(&mut count));
+    assert_eq!(rt; counters.write(&mut count), Ok(()));
     assert_eq!(rt; count, [0, 0, 0, 1, 0, 0, 0, 0]);
     let mut sum = [0xee; 16];
-    assert!(rt; sums.write(&mut sum));
+    assert_eq!(rt; sums.write(&mut sum), Ok(()));
     assert_eq!(rt; sum, [0, 0, 0, 0, 0, 0, 5, 0xdc, 0, 0, 0, 0, 0, 0, 0, 0]);
     Ok(())
 }
 
 #[test]
 fn sale_adds_to_the_row(rt: HostRuntime) -> Result<(), Fail> {
-    let Some(invoice) = Invoice::read(&BODY) else {
-        return Err(Fail::new("no invoice"));
-    };
+    let invoice = invoice()?;
     let mut rows: Tally<Row> = Tally::zero();
     assert!(rt; rows.fits(&invoice));
     rows.add(&invoice);
@@ -133,7 +134,7 @@ fn sale_adds_to_the_row(rt: HostRuntime) -> Result<(), Fail> {
     );
     assert_eq!(rt; rows.refund.values(), [0; 12]);
     let mut bytes = [0xee; 96];
-    assert!(rt; rows.sale.write(&mut bytes));
+    assert_eq!(rt; rows.sale.write(&mut bytes), Ok(()));
     let mut expected = [0; 96];
     put(&mut expected, 6, &[0x05, 0x14]);
     put(&mut expected, 23, &[0xc8]);
@@ -150,40 +151,29 @@ fn sale(amount: u64, categories: &[u8]) -> Invoice<'_> {
     }
 }
 
-// Whether an invoice fits a number, and the number after it.
-fn count_on(value: u32) -> (bool, u32) {
-    let mut number = Number::new(value);
-    let fits = number.fits(&sale(3, &[]));
-    number.add(&sale(3, &[]));
-    (fits, number.value())
+// Whether an invoice fits a sum that stands at a value, and the value after it.
+fn after<T: Addend>(value: T, invoice: &Invoice) -> (bool, T) {
+    let mut sum = Sum::new(value);
+    let fits = sum.fits(invoice);
+    sum.add(invoice);
+    (fits, sum.value())
 }
 
-// Whether an amount fits a sum, and the sum after it.
-fn sum_on(value: u64, amount: u64) -> (bool, u64) {
-    let mut money = Money::new(value);
-    let fits = money.fits(&sale(amount, &[]));
-    money.add(&sale(amount, &[]));
-    (fits, money.value())
-}
-
-// Whether categories fit a row whose number of id 5 is known, and the numbers of ids 1 and 5 after them.
-fn row_on(fifth: u64, categories: &[u8]) -> (bool, u64, u64) {
-    let mut row = Row::new([0, 0, 0, 0, fifth, 0, 0, 0, 0, 0, 0, 0]);
-    let fits = row.fits(&sale(0, categories));
-    row.add(&sale(0, categories));
-    let [one, _, _, _, five, ..] = row.values();
-    (fits, one, five)
+// The numbers of a row, of which only that of id 5 is not zero.
+fn fifth(value: u64) -> [u64; 12] {
+    [0, 0, 0, 0, value, 0, 0, 0, 0, 0, 0, 0]
 }
 
 #[test]
 fn what_fits_a_number_and_a_sum(rt: HostRuntime) {
-    assert_eq!(rt; count_on(4294967294), (true, 4294967295));
-    assert_eq!(rt; count_on(4294967295), (false, 4294967295));
-    let near = 18446744073709551605;
+    let invoice = sale(3, &[]);
+    assert_eq!(rt; after(4294967294u32, &invoice), (true, 4294967295));
+    assert_eq!(rt; after(4294967295u32, &invoice), (false, 4294967295));
+    let near = 18446744073709551605u64;
     let full = 18446744073709551615;
-    assert_eq!(rt; sum_on(near, 10), (true, full));
-    assert_eq!(rt; sum_on(near, 11), (false, near));
-    assert_eq!(rt; sum_on(full, 0), (true, full));
+    assert_eq!(rt; after(near, &sale(10, &[])), (true, full));
+    assert_eq!(rt; after(near, &sale(11, &[])), (false, near));
+    assert_eq!(rt; after(full, &sale(0, &[])), (true, full));
 }
 
 #[test]
@@ -191,13 +181,15 @@ fn what_fits_a_row(rt: HostRuntime) {
     let near = 18446744073709551605;
     let full = 18446744073709551615;
     let ten = [5, 0, 0, 0, 0, 0, 0, 6, 5, 0, 0, 0, 0, 0, 0, 4];
-    assert_eq!(rt; row_on(near, &ten), (true, 0, full));
+    assert_eq!(rt; after(fifth(near), &sale(0, &ten)), (true, fifth(full)));
     let eleven = [5, 0, 0, 0, 0, 0, 0, 6, 5, 0, 0, 0, 0, 0, 0, 5];
-    assert_eq!(rt; row_on(near, &eleven), (false, 0, near));
-    assert_eq!(rt; row_on(full, &[5, 0, 0, 0, 0, 0, 0, 0]), (true, 0, full));
-    assert_eq!(rt; row_on(0, &[13, 0, 0, 0, 0, 0, 0, 0]), (false, 0, 0));
+    assert_eq!(rt; after(fifth(near), &sale(0, &eleven)), (false, fifth(near)));
+    let nothing = [5, 0, 0, 0, 0, 0, 0, 0];
+    assert_eq!(rt; after(fifth(full), &sale(0, &nothing)), (true, fifth(full)));
+    let unknown = [13, 0, 0, 0, 0, 0, 0, 0];
+    assert_eq!(rt; after([0; 12], &sale(0, &unknown)), (false, [0; 12]));
     let foreign = [1, 0, 0, 0, 0, 0, 0, 7, 0, 0, 0, 0, 0, 0, 0, 0];
-    assert_eq!(rt; row_on(0, &foreign), (false, 0, 0));
+    assert_eq!(rt; after([0; 12], &sale(0, &foreign)), (false, [0; 12]));
 }
 
 #[test]
@@ -221,9 +213,10 @@ fn full_sale_side_does_not_bar_a_refund(rt: HostRuntime) {
 #[test]
 fn other_widths_are_neither_read_nor_written(rt: HostRuntime) {
     let mut five = [0xee; 5];
-    assert!(rt; !Number::new(1).write(&mut five));
-    assert!(rt; !Money::new(1).write(&mut five));
-    assert!(rt; !Row::new([1; 12]).write(&mut five));
+    let refused = Err(DoesNotFit);
+    assert_eq!(rt; Number::new(1).write(&mut five), refused);
+    assert_eq!(rt; Money::new(1).write(&mut five), refused);
+    assert_eq!(rt; Row::new([1; 12]).write(&mut five), refused);
     assert_eq!(rt; five, [0xee; 5]);
     assert!(rt; Number::read(&five).is_none());
     assert!(rt; Money::read(&five).is_none());

@@ -1,6 +1,6 @@
 -- A deck of recorded answers, and the rules that it gives.
 use Rattle.std.specs.Prelude.{ℕ, zero, suc, ◌+◌, Bool, true, false, cond, ◌&&◌, List, [], ◌∷◌, length, take, drop, Some, None, Option, ◌==◌, nat_lt}
-use Rattle.std.specs.Borrow.{Bor}
+use Rattle.std.specs.Option.{option_map}
 use Rattle.std.specs.Str.{bytes_eq}
 use Rattle.octets.specs.Parts.{part}
 use Rattle.sealers.specs.declared.recorded.Entry as code
@@ -91,12 +91,6 @@ recorded_seal deck message = recorded Seal deck message
 abbrev pub entry_read : code.Entry → Entry
 entry_read e = record { rule = e.rule; message = e.message.now; answer = e.answer.now; rest = e.rest.now }
 
--- what the code found at the front of a deck
+-- what the code found, as an entry of the deck
 abbrev pub entry_result : Option code.Entry → Option Entry
-entry_result (Some e) = Some (entry_read e)
-entry_result None = None
-
--- the bytes that the code found
-abbrev pub bytes_result : Option (Bor (List ℕ)) → Option (List ℕ)
-bytes_result (Some b) = Some b.now
-bytes_result None = None
+entry_result o = option_map entry_read o

@@ -1,64 +1,39 @@
 // The recorded sealer: both rules are read from a deck of entries.
-ghost use Rattle.std.specs.Prelude.{◌≡◌, ◌≤◌, length, IfSome, Some};
-ghost use Rattle.std.specs.Str.{bytes_eq};
-ghost use Rattle.sealers.specs.Deck.{kind_of, same_rule, entry_read, entry_result, answers, entry_in, first_entry, recorded, recorded_cover, recorded_seal, bytes_result};
-ghost use Rattle.sealers.specs.Rules.{sealer_value, sealer_after};
-ghost use Rattle.sealers.specs.Sizes.{answer_size};
+ghost use Rattle.std.specs.Prelude.{◌≡◌};
+ghost use Rattle.std.specs.Iterator.{YieldsFirstBy, item_count};
+ghost use Rattle.std.specs.List.{find};
+ghost use Rattle.sealers.specs.Deck.{kind_of, entry_read, entry_result, answers, entry_in, first_entry, entries, recorded, recorded_cover, recorded_seal};
 ghost use Rattle.sealers.specs.Kept.{recorded_keeps};
 
-use crate::rules::{ANSWER_SIZE, Sealer};
+use crate::rules::{ANSWER_SIZE, Sealer, place};
 use status::CallError;
 
-#[derive(Clone, Copy)]
+#[derive(Clone, Copy, PartialEq, Eq)]
 enum Rule {
     Cover,
     Seal,
-}
-
-impl Rule {
-    // Whether two rules are one.
-    fn is(self, other: Rule) -> bool
-        ensures { result ≡ same_rule self other }
-    {
-        match (self, other) {
-            (Rule::Cover, Rule::Cover) => true,
-            (Rule::Seal, Rule::Seal) => true,
-            _ => false,
-        }
-    }
 }
 
 // The kind of an entry: the rule that it belongs to, and how long its message is.
 #[derive(Clone, Copy)]
 struct Kind {
     rule: Rule,
-    len: u16,
+    len: usize,
 }
 
 impl Kind {
-    // The kind that a byte says.
+    // The kind that a byte says. None ends the reading and is no error: so this is no `TryFrom`.
     fn of(byte: u8) -> Option<Kind>
         ensures { result ≡ kind_of byte }
     {
-        match byte {
-            1 => Some(Kind {
-                rule: Rule::Cover,
-                len: 256,
-            }),
-            2 => Some(Kind {
-                rule: Rule::Seal,
-                len: 321,
-            }),
-            3 => Some(Kind {
-                rule: Rule::Seal,
-                len: 309,
-            }),
-            4 => Some(Kind {
-                rule: Rule::Seal,
-                len: 256,
-            }),
-            _ => None,
-        }
+        let (rule, len) = match byte {
+            1 => (Rule::Cover, 256),
+            2 => (Rule::Seal, 321),
+            3 => (Rule::Seal, 309),
+            4 => (Rule::Seal, 256),
+            _ => return None,
+        };
+        Some(Kind { rule, len })
     }
 }
 
@@ -67,7 +42,7 @@ impl Kind {
 struct Entry<'d> {
     rule: Rule,
     message: &'d [u8],
-    answer: &'d [u8],
+    answer: &'d [u8; ANSWER_SIZE],
     rest: &'d [u8],
 }
 
@@ -76,85 +51,58 @@ impl<'d> Entry<'d> {
     fn answers(&self, rule: Rule, message: &[u8]) -> bool
         ensures { result ≡ answers rule message.now (entry_read self.now) }
     {
-        self.rule.is(rule) && same(self.message, message)
+        self.rule == rule && self.message == message
     }
-}
-
-// Whether two messages are equal.
-fn same(a: &[u8], b: &[u8]) -> bool
-    ensures { result ≡ bytes_eq a.now b.now }
-{
-    a == b
 }
 
 // The first entry of a deck; none where reading ends.
 fn first_entry(deck: &[u8]) -> Option<Entry<'_>>
     ensures { entry_result result ≡ first_entry deck.now }
 {
-    let [byte, body @ ..] = deck else {
-        return None;
-    };
-    match Kind::of(*byte) {
-        Some(kind) => entry_of(kind, body),
-        None => None,
-    }
+    let (byte, body) = deck.split_first()?;
+    entry_of(Kind::of(*byte)?, body)
 }
 
 // The entry of a kind that its message begins; none where it is cut short.
 fn entry_of(kind: Kind, body: &[u8]) -> Option<Entry<'_>>
     ensures { entry_result result ≡ entry_in kind body.now }
 {
-    let len = usize::from(kind.len);
-    let end = len + ANSWER_SIZE;
-    if body.len() < end {
-        return None;
-    }
+    let Kind { rule, len } = kind;
+    let (message, behind) = body.split_at_checked(len)?;
+    let (answer, rest) = behind.split_first_chunk()?;
     Some(Entry {
-        rule: kind.rule,
-        message: &body[0..len],
-        answer: &body[len..end],
-        rest: &body[end..],
+        rule,
+        message,
+        answer,
+        rest,
     })
 }
 
-// The answer of the first entry that has one for a message under a rule.
-fn find<'d>(deck: &'d [u8], rule: Rule, message: &[u8]) -> Option<&'d [u8]>
-    ensures value { bytes_result result ≡ recorded rule deck.now message.now }
-    ensures size { IfSome result (λ a. length a.now ≡ answer_size) }
-{
-    let mut rest = deck;
-    while let Some(entry) = first_entry(rest) {
-        if entry.answers(rule, message) {
-            return Some(entry.answer);
-        }
-        rest = entry.rest;
-    }
-    None
+// The entries of a deck, up to where reading ends.
+#[derive(Clone, Copy)]
+struct Entries<'d> {
+    deck: &'d [u8],
 }
 
-// Writes the answer that a deck has for a message under a rule to the front of `out`, and says whether there is one.
-fn answer(deck: &[u8], rule: Rule, message: &[u8], out: &mut [u8]) -> Result<bool, CallError>
-    ensures value { result ≡ sealer_value (recorded rule deck.now message.now) out.old }
-    ensures after { out.new ≡ sealer_after (recorded rule deck.now message.now) out.old }
-{
-    if out.len() < ANSWER_SIZE {
-        return Err(CallError::SmallBuffer);
-    }
-    match find(deck, rule, message) {
-        Some(bytes) => {
-            put(bytes, out);
-            Ok(true)
-        }
-        None => Ok(false),
+impl<'d> Iterator for Entries<'d> {
+    type Item = Entry<'d>;
+
+    ghost next_gives = { YieldsFirstBy entry_read (λ s. entries s.deck.now) };
+
+    ghost remaining = { item_count (λ s. entries s.deck.now) };
+
+    fn next(&mut self) -> Option<Entry<'d>> {
+        let entry = first_entry(self.deck)?;
+        self.deck = entry.rest;
+        Some(entry)
     }
 }
 
-// Writes an answer to the front of `out`.
-fn put(bytes: &[u8], out: &mut [u8])
-    requires { (length bytes.now ≡ answer_size) × (answer_size ≤ length out.old) }
-    ensures { out.new ≡ sealer_after (Some bytes.now) out.old }
+// The first entry of a deck that answers for a message under a rule.
+fn find<'d>(deck: &'d [u8], rule: Rule, message: &[u8]) -> Option<Entry<'d>>
+    ensures { entry_result result ≡ find (answers rule message.now) (entries deck.now) }
 {
-    out[0..ANSWER_SIZE].copy_from_slice(bytes);
+    Entries { deck }.find(|entry| entry.answers(rule, message))
 }
 
 #[derive(Clone, Copy)]
@@ -169,6 +117,14 @@ impl<'d> RecordedSealer<'d> {
     {
         RecordedSealer { deck }
     }
+
+    // What the deck answers for a message under a rule.
+    fn answer(&self, rule: Rule, message: &[u8]) -> Option<[u8; ANSWER_SIZE]>
+        ensures { result ≡ recorded rule self.now.deck.now message.now }
+    {
+        let entry = find(self.deck, rule, message)?;
+        Some(*entry.answer)
+    }
 }
 
 impl Sealer for RecordedSealer<'_> {
@@ -179,10 +135,10 @@ impl Sealer for RecordedSealer<'_> {
     ghost kept = { λ s. recorded_keeps s.deck.now };
 
     fn cover(&mut self, block: &[u8], out: &mut [u8]) -> Result<bool, CallError> {
-        answer(self.deck, Rule::Cover, block, out)
+        place(self.answer(Rule::Cover, block), out)
     }
 
     fn seal(&mut self, message: &[u8], out: &mut [u8]) -> Result<bool, CallError> {
-        answer(self.deck, Rule::Seal, message, out)
+        place(self.answer(Rule::Seal, message), out)
     }
 }

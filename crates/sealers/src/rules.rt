@@ -21,16 +21,32 @@ pub trait Sealer {
     ghost kept: { (s : Self) → Keeps (cover_rule s) (seal_rule s) };
 
     // Writes the cover of a block to the front of `out`, and says whether there is one.
+    // A bool: none is an answer and no refusal, which has a number; and a result that lends the written part would
+    // leave no clause that names what `out` holds.
     fn cover(&mut self, block: &[u8], out: &mut [u8]) -> Result<bool, CallError>
         ensures value { result ≡ sealer_value (cover_rule self.old block.now) out.old }
         ensures after { out.new ≡ sealer_after (cover_rule self.old block.now) out.old }
         ensures cover_kept { cover_rule self.new ≡ cover_rule self.old }
         ensures seal_kept { seal_rule self.new ≡ seal_rule self.old };
 
-    // Writes the seal of a message to the front of `out`, and says whether there is one.
+    // Writes the seal of a message to the front of `out`, and says whether there is one. A bool, as for `cover`.
     fn seal(&mut self, message: &[u8], out: &mut [u8]) -> Result<bool, CallError>
         ensures value { result ≡ sealer_value (seal_rule self.old message.now) out.old }
         ensures after { out.new ≡ sealer_after (seal_rule self.old message.now) out.old }
         ensures cover_kept { cover_rule self.new ≡ cover_rule self.old }
         ensures seal_kept { seal_rule self.new ≡ seal_rule self.old };
+}
+
+// Writes what a rule gives to the front of `out`, and says whether it gives an answer.
+#[tactic(auto, using(crate::proofs::Buffers::left_value, crate::proofs::Buffers::left_after, crate::proofs::Buffers::placed_after))]
+pub(crate) fn place(given: Option<[u8; ANSWER_SIZE]>, out: &mut [u8]) -> Result<bool, CallError>
+    ensures value { result ≡ sealer_value given out.old }
+    ensures after { out.new ≡ sealer_after given out.old }
+{
+    let front = out.first_chunk_mut().ok_or(CallError::SmallBuffer)?;
+    let Some(answer) = given else {
+        return Ok(false);
+    };
+    *front = answer;
+    Ok(true)
 }

@@ -1,6 +1,7 @@
--- Status words: the value of each, and what it says.
-use Rattle.std.specs.Prelude.{ℕ, List, codes}
+-- Status words: the value of each, what it says, and which word has a value.
+use Rattle.std.specs.Prelude.{ℕ, List, [], ◌∷◌, ◌++◌, Some, None, Option, codes, decimal, if◌then◌else◌, ◌==◌}
 use Rattle.status.specs.declared.words.StatusWord.{StatusWord}
+use Rattle.status.specs.declared.words.UnknownWord.{UnknownWord}
 use Rattle.status.specs.declared.words.StatusWord.TheVariants.{Success, WrongPin, NoSeal, StoreRefused, WrongLength, PinNotVerified, PinBlocked, OverLimit, NotSelected, BadSeal, BadBody, UnknownApplet, NoRoom, WrongParameters, NothingSigned, UnknownInstruction, UnknownClass, UnsoundImage}
 
 -- the value of a status word
@@ -44,3 +45,39 @@ word_name NothingSigned = codes "nothing signed"
 word_name UnknownInstruction = codes "unknown instruction"
 word_name UnknownClass = codes "unknown class"
 word_name UnsoundImage = codes "unsound image"
+
+-- all words
+abbrev pub all_words : List StatusWord
+all_words =
+    Success
+    ∷ WrongPin
+    ∷ NoSeal
+    ∷ StoreRefused
+    ∷ WrongLength
+    ∷ PinNotVerified
+    ∷ PinBlocked
+    ∷ OverLimit
+    ∷ NotSelected
+    ∷ BadSeal
+    ∷ BadBody
+    ∷ UnknownApplet
+    ∷ NoRoom
+    ∷ WrongParameters
+    ∷ NothingSigned
+    ∷ UnknownInstruction
+    ∷ UnknownClass
+    ∷ UnsoundImage
+    ∷ []
+
+-- the word of a list that has this value
+abbrev pub word_in : List StatusWord → ℕ → Option StatusWord
+word_in [] v = None
+word_in (w ∷ ws) v = if v == word_value w then Some w else word_in ws v
+
+-- the word that has this value; none for a value of no word
+abbrev pub word_known : ℕ → Option StatusWord
+word_known v = word_in all_words v
+
+-- what is said of a value of no word
+abbrev pub unknown_text : UnknownWord → List ℕ
+unknown_text u = codes "no status word has the value " ++ decimal u.value

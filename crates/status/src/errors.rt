@@ -2,6 +2,7 @@
 ghost use Rattle.std.specs.Prelude.{◌≡◌, Some};
 ghost use Rattle.status.specs.Errors.{error_number, error_name};
 
+use std::error::Error;
 use std::fmt;
 
 #[derive(Clone, Copy, PartialEq, Eq, Debug)]
@@ -12,23 +13,12 @@ pub enum CallError {
     BadMemory = 4,
 }
 
-impl CallError {
-    // The number of the refusal.
-    pub fn number(self) -> u8
-        ensures { result ≡ error_number self }
-    {
-        self as u8
-    }
-    // What the refusal says.
-    fn name(self) -> &'static str
-        ensures { result.now ≡ error_name self }
-    {
-        match self {
-            CallError::SmallBuffer => "small buffer",
-            CallError::BadField => "bad field",
-            CallError::Unreadable => "unreadable",
-            CallError::BadMemory => "bad store memory",
-        }
+// The number of the refusal.
+impl From<CallError> for u8 {
+    ghost from_gives = { λ e n. n ≡ error_number e };
+
+    fn from(error: CallError) -> u8 {
+        error as u8
     }
 }
 
@@ -36,6 +26,13 @@ impl fmt::Display for CallError {
     ghost output = { λ e. Some (error_name e) };
 
     fn fmt<W: fmt::Write>(&self, f: &mut fmt::Formatter<W>) -> fmt::Result {
-        fmt::Display::fmt(&self.name(), f)
+        f.pad(match self {
+            CallError::SmallBuffer => "small buffer",
+            CallError::BadField => "bad field",
+            CallError::Unreadable => "unreadable",
+            CallError::BadMemory => "bad store memory",
+        })
     }
 }
+
+impl Error for CallError {}

@@ -5,4 +5,4 @@ pub mod errors;
 pub mod words;
 
 pub use errors::CallError;
-pub use words::StatusWord;
+pub use words::{StatusWord, UnknownWord};

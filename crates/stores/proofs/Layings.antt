@@ -1,10 +1,11 @@
 -- A tape memory in which an image was laid.
-use Rattle.std.proofs.Common.{◌≡◌, ℕ, zero, suc, ◌+◌, ◌-◌, ◌*◌, ◌/◌, ◌<◌, ◌≤◌, List, length, get_or, take, set, sym, refl, ap, ◌∙◌, ⊎_elim, arith, length-set}
+use Rattle.std.proofs.Common.{◌≡◌, ℕ, zero, suc, ◌+◌, ◌-◌, ◌*◌, ◌/◌, ◌<◌, ◌≤◌, List, ◌++◌, length, get_or, take, drop, set, true, ◌&&◌, leb, cond, Ok, sym, refl, ap, ◌∙◌, ⊎_elim, arith, length-set, eq-eqb, le-leb}
 use Rattle.std.proofs.lemmas.List.{take-set-le, get_or-set_same, get_or-set_other, get_or-take, take_at, take_all}
 use Rattle.octets.specs.Parts.{part, overwritten}
 use Rattle.octets.proofs.Pieces.{part-part, length-overwritten}
 use Rattle.stores.specs.Sizes.{image_size, record_size, kind_written, kind_free}
-use Rattle.stores.specs.Tape.{records, tape_image, tape_left, written_record, freed}
+use Rattle.stores.specs.Meaning.{laying}
+use Rattle.stores.specs.Tape.{records, tape_image, tape_left, written_record, freed, tape_fits, tape_laid}
 use Rattle.stores.proofs.Tapes.{kind, Tape, image_of_tape, left_of_tape, le_or}
 
 -- one more record made free
@@ -72,6 +73,18 @@ module _ (image m : List ℕ) (size : length image ≡ image_size) (room : recor
   pub left_laid : tape_left L ≡ records m - 1
   left_laid = left_of_tape 1 L tape_laid_is ∙ ap (λ n. n / record_size - 1) length_laid
 
-  -- the memory as two steps leave it
+  -- the memory as its first step, and as both steps leave it
+  pub first_step : written_record image ++ drop record_size m ≡ O
+  first_step = let n : record_size ≡ 0 + length (written_record image) = omega (arith, size_record) in ap (λ j. written_record image ++ drop j m) n
+
   pub laid_as : (x y : List ℕ) → x ≡ O → y ≡ freed (records x - 1) x → y ≡ L
   laid_as x y ex ey = ey ∙ ap (λ l. freed (records l - 1) l) ex ∙ ap (λ n. freed (n / record_size - 1) O) length_over
+
+  fits_laid : tape_fits image m ≡ true
+  fits_laid = ap (λ b. b && leb record_size (length m)) (eq-eqb (length image) image_size size) ∙ le-leb record_size (length m) room
+
+  pub value_laid : Ok tt ≡ laying (tape_fits image m)
+  value_laid = sym (ap laying fits_laid)
+
+  pub memory_laid : L ≡ tape_laid image m
+  memory_laid = sym (ap (λ b. cond b L m) fits_laid)

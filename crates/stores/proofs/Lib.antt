@@ -1,4 +1,4 @@
-pub mod Givings
 pub mod Flats
+pub mod Writings
 pub mod Tapes
 pub mod Layings

@@ -1,102 +1,37 @@
 -- The records of a tape, by their kind bytes.
-use Rattle.std.proofs.Common.{◌≡◌, ℕ, zero, suc, ◌+◌, ◌-◌, ◌*◌, ◌/◌, ◌<◌, ◌≤◌, Bool, true, false, cond, ◌&&◌, eqb, ltb, leb, ◌⊎◌, List, [], ◌∷◌, ◌++◌, length, get_or, take, drop, set, sym, refl, ap, ◌∙◌, inl, inr, ⊎_elim, mul-suc, add-one, arith, length-set, ltb-true, lt-ltb, eq-eqb, ne_eqb, eqb-true, le-leb, leb-false, leb-true}
-use lib.Seq.{take-set-lt}
-use Rattle.std.proofs.lemmas.List.{drop-drop, get_or-drop, get_or-take, take_at, length-take-le, set-append_left, set-set, take_more_set, drop-set-lt, append_assoc}
+use Rattle.std.proofs.Common.{◌≡◌, ℕ, zero, suc, ◌+◌, ◌-◌, ◌*◌, ◌/◌, ◌<◌, ◌≤◌, Bool, true, false, cond, ◌&&◌, eqb, ltb, leb, ◌⊎◌, List, [], ◌∷◌, ◌++◌, length, get_or, take, drop, Option, Some, Ok, sym, refl, ap, ◌∙◌, inl, inr, ⊎_elim, mul-suc, arith, lt-ltb, eqb-true, leb-false, leb-true, length-drop}
+use Rattle.std.specs.Bool.{then_some}
+use Rattle.std.specs.List.{list_all}
+use Rattle.std.specs.Simd.{first_chunks}
+use Rattle.std.proofs.lemmas.List.{drop-drop, drop-take, get_or-drop, get_or-take, take_at, length-take-le}
+use Rattle.std.proofs.lemmas.List.Elements.{All-get_or, All-from_get_or}
+use Rattle.std.proofs.lemmas.List.Sums.{prefix_len_is, prefix_len_passes, AllPass-from_list_all, list_all-from_AllPass}
 use Rattle.std.proofs.lemmas.Bool.{and_parts}
 use Rattle.octets.specs.Parts.{part, overwritten}
-use Rattle.octets.proofs.Pieces.{part-before, part_behind, part_right, length-overwritten}
+use borrow.Rule.Slice.PartMut.{put_mid}
+use Rattle.octets.proofs.Pieces.{put_mid_is, part-before, part_behind, part_right, length-overwritten}
 use Rattle.stores.specs.Sizes.{image_size, record_size, kind_written, kind_free}
-use Rattle.stores.specs.Meaning.{no_image}
-use Rattle.stores.specs.Tape.{used, free, records, written, good, place, stands, image_at, left_at, tape_image, tape_left, written_record, CutShort, place-le}
+use Rattle.stores.specs.Meaning.{accepted, writing, image_after, left_after}
+use Rattle.stores.specs.Tape.{records, cut, is_written, is_free, written, good, place, image_at, left_at, tape_image, tape_left, written_record, tape_written, CutShort, length_cut, some_of, place-le}
+use Rattle.stores.proofs.Writings.{accepted_is}
+
+-- record i of a memory that is cut into n records of w bytes
+chunk_is : (w n i : ℕ) (m d : List ℕ) → i < n → get_or (first_chunks w n m) i d ≡ part (w * i) w m
+chunk_is w zero i m d h = absurd (omega arith)
+chunk_is w (suc n) zero m d h = let z : 0 ≡ w * 0 = omega arith in ap (λ j. take w (drop j m)) z
+chunk_is w (suc n) (suc i) m d h =
+    let e : w + w * i ≡ w * suc i = omega (arith, mul-suc w i) in
+    chunk_is w n i (drop w m) d (omega arith) ∙ ap (take w) (drop-drop (w * i) w m ∙ ap (λ j. drop j m) e)
 
 -- the kind byte of record i, for records of w bytes
 abbrev pub kind : ℕ → ℕ → List ℕ → ℕ
 kind w i m = get_or m (w * i) 0
 
-kind-first : (w : ℕ) (m : List ℕ) → kind w 0 m ≡ get_or m 0 0
-kind-first w m = ap (λ j. get_or m j 0) (omega arith)
-
-kind_next : (w i : ℕ) (m : List ℕ) → kind w i (drop w m) ≡ kind w (suc i) m
-kind_next w i m = get_or-drop w m (w * i) 0 ∙ ap (λ j. get_or m j 0) (omega (arith, mul-suc w i))
-
--- a loop over the records, at record i of n
-module _ (w n i : ℕ) (m : List ℕ) (h : i < n) where
-  left_then : n - i ≡ suc (n - (i + 1))
-  left_then = omega arith
-
-  here : get_or (drop (w * i) m) 0 0 ≡ kind w i m
-  here = get_or-drop (w * i) m 0 0 ∙ ap (λ j. get_or m j 0) (omega arith)
-
-  next : drop w (drop (w * i) m) ≡ drop (w * (i + 1)) m
-  next = let e : w * i + w ≡ w * (i + 1) = simp (add-one, mul-suc) in drop-drop w (w * i) m ∙ ap (λ k. drop k m) e
-
-  used_next : used w (n - i) (drop (w * i) m) ≡ cond (eqb (kind w i m) kind_written) (used w (n - (i + 1)) (drop (w * (i + 1)) m) + 1) 0
-  unfolding used
-  used_next = let s = left_then in let g = here in let d = next in simp (s, g, d)
-
-  free_next : free w (n - i) (drop (w * i) m) ≡ (eqb (kind w i m) kind_free && free w (n - (i + 1)) (drop (w * (i + 1)) m))
-  unfolding free
-  free_next = let s = left_then in let g = here in let d = next in simp (s, g, d)
-
-  pub used_more : (R : ℕ) → kind w i m ≡ kind_written → used w (n - i) (drop (w * i) m) + i ≡ R → used w (n - (i + 1)) (drop (w * (i + 1)) m) + (i + 1) ≡ R
-  used_more R e inv =
-      let t = used_next ∙ ap (λ b. cond b (used w (n - (i + 1)) (drop (w * (i + 1)) m) + 1) 0) (eq-eqb (kind w i m) kind_written e) in
-      omega (arith, t)
-
-  pub used_stop : (R : ℕ) → (kind w i m ≡ kind_written → ⊥) → used w (n - i) (drop (w * i) m) + i ≡ R → i ≡ R
-  used_stop R e inv =
-      let t = used_next ∙ ap (λ b. cond b (used w (n - (i + 1)) (drop (w * (i + 1)) m) + 1) 0) (ne_eqb (kind w i m) kind_written e) in
-      omega (arith, t)
-
-  pub free_more : (R : Bool) → kind w i m ≡ kind_free → free w (n - i) (drop (w * i) m) ≡ R → free w (n - (i + 1)) (drop (w * (i + 1)) m) ≡ R
-  free_more R e inv = sym (free_next ∙ ap (λ b. b && free w (n - (i + 1)) (drop (w * (i + 1)) m)) (eq-eqb (kind w i m) kind_free e)) ∙ inv
-
-  pub free_stop : (R : Bool) → (kind w i m ≡ kind_free → ⊥) → free w (n - i) (drop (w * i) m) ≡ R → false ≡ R
-  free_stop R e inv = sym (free_next ∙ ap (λ b. b && free w (n - (i + 1)) (drop (w * (i + 1)) m)) (ne_eqb (kind w i m) kind_free e)) ∙ inv
-
--- such a loop at its end
-pub used_all : (w n i R : ℕ) (m : List ℕ) → n ≤ i → used w (n - i) m + i ≡ R → i ≡ R
-unfolding used
-used_all w n i R m h inv = let z : n - i ≡ 0 = omega arith in let e = rw z at inv in omega arith
-
-pub free_all : (w n i : ℕ) (R : Bool) (m : List ℕ) → n ≤ i → free w (n - i) m ≡ R → true ≡ R
-unfolding free
-free_all w n i R m h inv = let z : n - i ≡ 0 = omega arith in rw z at inv
-
--- the kinds of n records tell how many are used, and whether all are free
-used_is : (w n k : ℕ) (m : List ℕ) → k ≤ n → ((i : ℕ) → i < k → kind w i m ≡ kind_written) → ((i : ℕ) → k ≤ i → i < n → kind w i m ≡ kind_free) → used w n m ≡ k
-unfolding used
-used_is w zero k m le full rest = omega arith
-used_is w (suc n) zero m le full rest =
-    ap (λ b. cond (eqb b kind_written) (used w n (drop w m) + 1) 0) (sym (kind-first w m) ∙ rest 0 (omega arith) (omega arith))
-used_is w (suc n) (suc k) m le full rest =
-    let ih = used_is w n k (drop w m) (omega arith) (λ i h. kind_next w i m ∙ full (suc i) (omega arith)) (λ i h l. kind_next w i m ∙ rest (suc i) (omega arith) (omega arith)) in
-    ap (λ b. cond (eqb b kind_written) (used w n (drop w m) + 1) 0) (sym (kind-first w m) ∙ full 0 (omega arith)) ∙ omega (arith, ih)
-
-free_is : (w n : ℕ) (m : List ℕ) → ((i : ℕ) → i < n → kind w i m ≡ kind_free) → free w n m ≡ true
-unfolding free
-free_is w zero m all = refl
-free_is w (suc n) m all =
-    ap (λ b. eqb b kind_free && free w n (drop w m)) (sym (kind-first w m) ∙ all 0 (omega arith)) ∙ free_is w n (drop w m) (λ i h. kind_next w i m ∙ all (suc i) (omega arith))
-
--- and the other way round
-first-used : (b : Bool) (u k : ℕ) → cond b (u + 1) 0 ≡ suc k → (b ≡ true) × (u ≡ k)
-first-used true u k e = (refl, omega arith)
-first-used false u k e = absurd (omega arith)
-
-used-kind : (w n k : ℕ) (m : List ℕ) → used w n m ≡ k → (i : ℕ) → i < k → kind w i m ≡ kind_written
-unfolding used
-used-kind w zero k m e i h = absurd (omega arith)
-used-kind w (suc n) zero m e i h = absurd (omega arith)
-used-kind w (suc n) (suc k) m e zero h = kind-first w m ∙ eqb-true (get_or m 0 0) kind_written (first-used (eqb (get_or m 0 0) kind_written) (used w n (drop w m)) k e).0
-used-kind w (suc n) (suc k) m e (suc i) h =
-    sym (kind_next w i m) ∙ used-kind w n k (drop w m) (first-used (eqb (get_or m 0 0) kind_written) (used w n (drop w m)) k e).1 i (omega arith)
-
-free-kind : (w n : ℕ) (m : List ℕ) → free w n m ≡ true → (i : ℕ) → i < n → kind w i m ≡ kind_free
-unfolding free
-free-kind w zero m e i h = absurd (omega arith)
-free-kind w (suc n) m e zero h = kind-first w m ∙ eqb-true (get_or m 0 0) kind_free (and_parts _ _ e).0
-free-kind w (suc n) m e (suc i) h = sym (kind_next w i m) ∙ free-kind w n (drop w m) (and_parts _ _ e).1 i (omega arith)
+-- it is the first byte of that record
+kind_cut : (i : ℕ) (m : List ℕ) → i < records m → get_or (get_or (cut m) i []) 0 0 ≡ kind record_size i m
+kind_cut i m h =
+    ap (λ r. get_or r 0 0) (chunk_is record_size (records m) i m [] h) ∙ get_or-take record_size (drop (record_size * i) m) 0 0 (omega arith)
+    ∙ get_or-drop (record_size * i) m 0 0 ∙ ap (λ j. get_or m j 0) (omega arith)
 
 -- a good tape of which k records were written
 pub record Tape (k : ℕ) (m : List ℕ) : Type 0 where
@@ -105,63 +40,77 @@ pub record Tape (k : ℕ) (m : List ℕ) : Type 0 where
   pub full : (i : ℕ) → i < k → kind record_size i m ≡ kind_written
   pub rest : (i : ℕ) → k ≤ i → i < records m → kind record_size i m ≡ kind_free
 
--- the kinds past the first k records
-kind_past : (k i : ℕ) (m : List ℕ) → kind record_size i (drop (record_size * k) m) ≡ kind record_size (k + i) m
-kind_past k i m = get_or-drop (record_size * k) m (record_size * i) 0 ∙ ap (λ j. get_or m j 0) (omega arith)
-
-pub place_of_tape : (k : ℕ) (m : List ℕ) → Tape k m → place m ≡ k
-place_of_tape k m t =
-    let u : written m ≡ k = used_is record_size (records m) k m t.within t.full t.rest in
-    let f = free_is record_size (records m - k) (drop (record_size * k) m) (λ i h. kind_past k i m ∙ t.rest (k + i) (omega arith) (omega arith)) in
-    let g : good m ≡ true =
-    ap (λ j. ltb 0 j && free record_size (records m - j) (drop (record_size * j) m)) u ∙ ap (λ b. b && free record_size (records m - k) (drop (record_size * k) m)) (lt-ltb 0 k t.some) ∙ f in
-    ap (λ b. cond b (written m) 0) g ∙ u
-
-pub tape_of_place : (k : ℕ) (m : List ℕ) → place m ≡ k → 0 < k → Tape k m
-tape_of_place k m e some = go (good m) refl e
+pub place_of_tape : (k : ℕ) (m : List ℕ) → Tape k m → place m ≡ Some k
+place_of_tape k m t = ap (λ b. then_some b (written m)) is_good ∙ ap Some count
   where
-    go : (b : Bool) → good m ≡ b → cond b (written m) 0 ≡ k → Tape k m
-    go false g u = absurd (omega arith)
-    go true g u =
-        let test = and_parts (ltb 0 (written m)) _ g in
-        let f : free record_size (records m - k) (drop (record_size * k) m) ≡ true = ap (λ j. free record_size (records m - j) (drop (record_size * j) m)) (sym u) ∙ test.1 in
-        let le = place-le m in
-        record {
-          some = some;
-          within = omega (arith, le, e);
-          full = used-kind record_size (records m) k m u;
-          rest = λ i h l. ap (λ j. kind record_size j m) (omega arith) ∙ sym (kind_past k (i - k) m) ∙ free-kind record_size (records m - k) (drop (record_size * k) m) f (i - k) (omega arith);
-        }
+    n : length (cut m) ≡ records m
+    n = length_cut m
 
--- what k records mean that can have been written
-module _ (k : ℕ) (m : List ℕ) (some : 0 < k) (within : k ≤ records m) where
-  stand : stands k m ≡ true
-  stand = ap (λ b. b && leb k (records m)) (lt-ltb 0 k some) ∙ le-leb k (records m) within
+    count : written m ≡ k
+    count =
+        prefix_len_is is_written (cut m) k [] (omega (arith, n, t.within))
+        (λ i h. ap (λ x. eqb x kind_written) (kind_cut i m (omega (arith, t.within)) ∙ t.full i h))
+        (λ h. ap (λ x. eqb x kind_written) (kind_cut k m (omega (arith, n)) ∙ t.rest k (omega arith) (omega (arith, n))))
 
-  pub image_standing : image_at k m ≡ part (record_size * (k - 1) + 1) image_size m
-  image_standing = ap (λ b. cond b (part (record_size * (k - 1) + 1) image_size m) no_image) stand
+    free_at : (i : ℕ) → i < length (drop k (cut m)) → is_free (get_or (drop k (cut m)) i []) ≡ true
+    free_at i h =
+        let l : k + i < records m = omega (arith, n, length-drop k (cut m)) in
+        ap is_free (get_or-drop k (cut m) i []) ∙ ap (λ x. eqb x kind_free) (kind_cut (k + i) m l ∙ t.rest (k + i) (omega arith) l)
 
-  pub left_standing : left_at k m ≡ records m - k
-  left_standing = ap (λ b. cond b (records m - k) 0) stand
+    is_good : good m ≡ true
+    is_good =
+        ap (λ j. ltb 0 j && list_all is_free (drop j (cut m))) count ∙ ap (λ b. b && list_all is_free (drop k (cut m))) (lt-ltb 0 k t.some)
+        ∙ list_all-from_AllPass is_free (drop k (cut m)) (All-from_get_or (λ r. is_free r ≡ true) (drop k (cut m)) [] free_at)
 
-  -- the part of memory that is read
-  pub image_part : (w : ℕ) → w ≡ image_size → part (record_size * (k - 1) + 1) w m ≡ image_at k m
-  image_part w e = ap (λ n. part (record_size * (k - 1) + 1) n m) e ∙ sym image_standing
+pub tape_of_place : (k : ℕ) (m : List ℕ) → place m ≡ Some k → Tape k m
+tape_of_place k m e = record { some = p.1.0; within = p.1.1; full = full_at; rest = rest_at }
+  where
+    p : (k ≡ written m) × ((0 < k) × (k ≤ records m))
+    p = place-le k m e
+
+    n : length (cut m) ≡ records m
+    n = length_cut m
+
+    free_tail : list_all is_free (drop (written m) (cut m)) ≡ true
+    free_tail = (and_parts (ltb 0 (written m)) _ (some_of (good m) (written m) k e).0).1
+
+    full_at : (i : ℕ) → i < k → kind record_size i m ≡ kind_written
+    full_at i h =
+        sym (kind_cut i m (omega (arith, p.1.1))) ∙ eqb-true _ kind_written (prefix_len_passes is_written (cut m) i [] (omega (arith, p.0)))
+
+    rest_at : (i : ℕ) → k ≤ i → i < records m → kind record_size i m ≡ kind_free
+    rest_at i h l =
+        let j : written m + (i - written m) ≡ i = omega (arith, p.0) in
+        let at = All-get_or (λ r. is_free r ≡ true) (drop (written m) (cut m)) (i - written m) [] (omega (arith, n, p.0, length-drop (written m) (cut m))) (AllPass-from_list_all is_free _ free_tail) in
+        sym (kind_cut i m l) ∙ ap (λ r. get_or r 0 0) (ap (λ x. get_or (cut m) x []) (sym j) ∙ sym (get_or-drop (written m) (cut m) (i - written m) []))
+        ∙ eqb-true _ kind_free at
+
+-- so is a place that was kept
+pub kept-le : (k : ℕ) (m : List ℕ) (kept : Option ℕ) → kept ≡ place m → kept ≡ Some k → (0 < k) × (k ≤ records m)
+kept-le k m kept f e = (place-le k m (sym f ∙ e)).1
 
 -- what a good tape means
 pub image_of_tape : (k : ℕ) (m : List ℕ) → Tape k m → tape_image m ≡ part (record_size * (k - 1) + 1) image_size m
-image_of_tape k m t = ap (λ j. image_at j m) (place_of_tape k m t) ∙ image_standing k m t.some t.within
+image_of_tape k m t = ap (λ p. image_at p m) (place_of_tape k m t)
 
 pub left_of_tape : (k : ℕ) (m : List ℕ) → Tape k m → tape_left m ≡ records m - k
-left_of_tape k m t = ap (λ j. left_at j m) (place_of_tape k m t) ∙ left_standing k m t.some t.within
+left_of_tape k m t = ap (λ p. left_at p m) (place_of_tape k m t)
+
+-- the image in the last record written, as it is read
+pub image_of_last : (k : ℕ) (m d : List ℕ) (rs : List (List ℕ)) → place m ≡ Some k → rs ≡ cut m → drop 1 (get_or rs (k - 1) d) ≡ tape_image m
+image_of_last k m d rs p e =
+    let t = tape_of_place k m p in
+    let i : ℕ = k - 1 in
+    ap (λ l. drop 1 (get_or l i d)) e ∙ ap (drop 1) (chunk_is record_size (records m) i m d (omega (arith, t.some, t.within)))
+    ∙ drop-take 1 image_size (drop (record_size * i) m) ∙ ap (take image_size) (drop-drop 1 (record_size * i) m) ∙ sym (image_of_tape k m t)
 
 -- records are left only behind some that were written
-pub left_some : (k : ℕ) (m : List ℕ) → 0 < left_at k m → (0 < k) × (k < records m)
-left_some k m h = go (stands k m) refl h
+left_some : (m : List ℕ) → 0 < tape_left m → Tape (written m) m × (written m < records m)
+left_some m h = go (good m) refl h
   where
-    go : (b : Bool) → stands k m ≡ b → 0 < cond b (records m - k) 0 → (0 < k) × (k < records m)
-    go false e l = absurd (omega arith)
-    go true e l = (ltb-true 0 k (and_parts _ _ e).0, omega arith)
+    go : (b : Bool) → good m ≡ b → 0 < left_at (then_some b (written m)) m → Tape (written m) m × (written m < records m)
+    go false g l = absurd (omega arith)
+    go true g l = (tape_of_place (written m) m (ap (λ b. then_some b (written m)) g), omega arith)
 
 -- single bytes of a list that was overwritten
 byte_part : (j : ℕ) (m : List ℕ) → get_or (part j 1 m) 0 0 ≡ get_or m j 0
@@ -189,7 +138,10 @@ le_or i k = go (leb i k) refl
     go false e = inr (leb-false i k e)
 
 -- a write to record k, behind k written ones
-module _ (k : ℕ) (m new : List ℕ) (some : 0 < k) (room : k < records m) (size : length new ≡ image_size) where
+module _ (k : ℕ) (m new : List ℕ) (at_place : place m ≡ Some k) (room : k < records m) (size : length new ≡ image_size) where
+  old_tape : Tape k m
+  old_tape = tape_of_place k m at_place
+
   abbrev a : ℕ
   a = record_size * k
 
@@ -205,33 +157,45 @@ module _ (k : ℕ) (m new : List ℕ) (some : 0 < k) (room : k < records m) (siz
   length_put : length M ≡ length m
   length_put = length-overwritten a (written_record new) m (omega (arith, fits, size_record))
 
-  pub image_put : image_at (k + 1) M ≡ new
-  image_put =
-      let one : a + 1 - a ≡ 1 = omega arith in
-      image_standing (k + 1) M (omega arith) (omega (arith, length_put)) ∙ ap (λ j. part (record_size * j + 1) image_size M) (omega arith)
-      ∙ part_right (a + 1) image_size a (take a m) _ (length-take-le a m (omega (arith, fits))) (omega arith)
-      ∙ ap (λ j. part j image_size (written_record new ++ drop (a + length (written_record new)) m)) one
-      ∙ take_at new (drop (a + length (written_record new)) m) image_size size
-
-  pub left_put : left_at (k + 1) M ≡ left_at k m - 1
-  left_put =
-      left_standing (k + 1) M (omega arith) (omega (arith, length_put)) ∙ ap (λ n. n / record_size - (k + 1)) length_put
-      ∙ omega (arith, left_standing k m some (omega arith))
-
-  tape_put : Tape k m → Tape (k + 1) M
-  tape_put t = record {
+  new_tape : Tape (k + 1) M
+  new_tape = record {
     some = omega arith;
     within = omega (arith, length_put);
     full = full_put;
-    rest = λ i h l. byte_behind (record_size * i) a (written_record new) m (omega (arith, size_record)) (omega (arith, fits)) ∙ t.rest i (omega arith) (omega (arith, length_put));
+    rest = λ i h l. byte_behind (record_size * i) a (written_record new) m (omega (arith, size_record)) (omega (arith, fits)) ∙ old_tape.rest i (omega arith) (omega (arith, length_put));
   }
     where
       full_put : (i : ℕ) → i < k + 1 → kind record_size i M ≡ kind_written
       full_put i h = ⊎_elim (λ l. ap (λ j. kind record_size j M) (omega arith) ∙ byte_first a kind_written new m (omega (arith, fits)))
-          (λ l. byte_before (record_size * i) a (written_record new) m (omega arith) (omega (arith, fits)) ∙ t.full i l) (le_or k i)
+          (λ l. byte_before (record_size * i) a (written_record new) m (omega arith) (omega (arith, fits)) ∙ old_tape.full i l) (le_or k i)
 
-  pub place_put : k ≡ place m → k + 1 ≡ place M
-  place_put e = sym (place_of_tape (k + 1) M (tape_put (tape_of_place k m (sym e) some)))
+  accepted_put : accepted (tape_left m) new ≡ true
+  accepted_put = accepted_is (tape_left m) new size (omega (arith, left_of_tape k m old_tape))
+
+  pub place_put : Some (k + 1) ≡ place M
+  place_put = sym (place_of_tape (k + 1) M new_tape)
+
+  pub value_put : Ok tt ≡ writing (accepted (tape_left m) new)
+  value_put = sym (ap writing accepted_put)
+
+  pub memory_put : M ≡ tape_written m new
+  memory_put =
+      ap (λ j. overwritten (record_size * j) (written_record new) m) (place-le k m at_place).0
+      ∙ sym (ap (λ b. cond b (overwritten (record_size * written m) (written_record new) m) m) accepted_put)
+
+  pub image_put : tape_image M ≡ image_after (tape_image m) (tape_left m) new
+  image_put =
+      let one : a + 1 - a ≡ 1 = omega arith in
+      image_of_tape (k + 1) M new_tape ∙ ap (λ j. part (record_size * j + 1) image_size M) (omega arith)
+      ∙ part_right (a + 1) image_size a (take a m) _ (length-take-le a m (omega (arith, fits))) (omega arith)
+      ∙ ap (λ j. part j image_size (written_record new ++ drop (a + length (written_record new)) m)) one
+      ∙ take_at new (drop (a + length (written_record new)) m) image_size size
+      ∙ sym (ap (λ b. cond b new (tape_image m)) accepted_put)
+
+  pub left_put : tape_left M ≡ left_after (tape_left m) new
+  left_put =
+      left_of_tape (k + 1) M new_tape ∙ ap (λ n. n / record_size - (k + 1)) length_put
+      ∙ omega (arith, left_of_tape k m old_tape) ∙ sym (ap (λ b. cond b (tape_left m - 1) (tape_left m)) accepted_put)
 
 -- a write of record k that is cut short: its body holds anything
 module _ (k : ℕ) (m body : List ℕ) (t : Tape k m) (room : k < records m) (size : length body ≡ image_size) where
@@ -259,31 +223,32 @@ module _ (k : ℕ) (m body : List ℕ) (t : Tape k m) (room : k < records m) (si
       rest-cut i h l = ⊎_elim (λ e. byte_before (record_size * i) b body m (omega arith) (omega (arith, fits_cut)) ∙ t.rest i h l)
           (λ e. byte_behind (record_size * i) b body m (omega arith) (omega (arith, fits_cut)) ∙ t.rest i h l) (le_or i k)
 
-  pub image_cut : tape_image C ≡ tape_image m
-  image_cut =
+  image_short : tape_image C ≡ tape_image m
+  image_short =
       image_of_tape k C tape_cut ∙ part-before (record_size * (k - 1) + 1) image_size b body m (omega (arith, t.some)) (omega (arith, fits_cut)) ∙ sym (image_of_tape k m t)
 
-  pub left_cut : tape_left C ≡ tape_left m
-  left_cut = left_of_tape k C tape_cut ∙ ap (λ n. n / record_size - k) length-cut ∙ sym (left_of_tape k m t)
+  left_short : tape_left C ≡ tape_left m
+  left_short = left_of_tape k C tape_cut ∙ ap (λ n. n / record_size - k) length-cut ∙ sym (left_of_tape k m t)
 
 pub cut_short : (m : List ℕ) → CutShort m
-cut_short m body size some =
-    let k = place m in
-    let l = left_some k m some in
-    let t = tape_of_place k m refl l.0 in
-    (image_cut k m body t l.1 size, left_cut k m body t l.1 size)
+cut_short m body size some = let l = left_some m some in (image_short (written m) m body l.0 l.1 size, left_short (written m) m body l.0 l.1 size)
 
--- a record written in three steps: it is made free, its body is filled, and it is marked as written
-pub record_put : (k : ℕ) (m new x : List ℕ) → k < records m → length new ≡ image_size →
-    x ≡ overwritten (record_size * k + 1) new (set m (record_size * k) kind_free) → set x (record_size * k) kind_written ≡ overwritten (record_size * k) (written_record new) m
-record_put k m new x room size filled =
-    let a : ℕ = record_size * k in
-    let n : List ℕ = set m a kind_free in
-    let R : List ℕ = new ++ drop (a + 1 + length new) n in
-    let head : length (take (a + 1) n) ≡ a + 1 = length-take-le (a + 1) n (omega (arith, length-set m a kind_free)) in
-    let first : set (take (a + 1) n) a kind_written ≡ take a m ++ (kind_written ∷ []) =
-    sym (take-set-lt (a + 1) n a kind_written (omega arith)) ∙ ap (take (a + 1)) (set-set m a kind_free kind_written) ∙ take_more_set m a kind_written (omega arith) in
-    let rest : drop (a + 1 + length new) n ≡ drop (a + length (written_record new)) m =
-    drop-set-lt (a + 1 + length new) m a kind_free (omega arith) ∙ ap (λ j. drop j m) (omega arith) in
-    ap (λ l. set l a kind_written) filled ∙ set-append_left (take (a + 1) n) R a kind_written (omega arith)
-    ∙ ap (λ l. l ++ R) first ∙ append_assoc (take a m) (kind_written ∷ []) R ∙ ap (λ l. take a m ++ (written_record new ++ l)) rest
+-- a write as the code leaves the memory
+module _ (k : ℕ) (m slot new : List ℕ) (s : slot ≡ written_record new) (size : length new ≡ image_size) (p : place m ≡ Some k) (room : k < records m) where
+  abbrev left_memory : List ℕ
+  left_memory = put_mid (record_size * k) (record_size * k + record_size - record_size * k) m slot
+
+  put_is : left_memory ≡ overwritten (record_size * k) (written_record new) m
+  put_is = put_mid_is (record_size * k) _ (length (written_record new)) _ m _ (written_record new) (omega (arith, size)) refl s
+
+  pub place_after : place left_memory ≡ Some (k + 1)
+  place_after = ap place put_is ∙ sym (place_put k m new p room size)
+
+  pub image_after_put : tape_image left_memory ≡ image_after (tape_image m) (tape_left m) new
+  image_after_put = ap tape_image put_is ∙ image_put k m new p room size
+
+  pub left_after_put : tape_left left_memory ≡ left_after (tape_left m) new
+  left_after_put = ap tape_left put_is ∙ left_put k m new p room size
+
+  pub memory_after : left_memory ≡ tape_written m new
+  memory_after = put_is ∙ memory_put k m new p room size

@@ -1,8 +1,9 @@
 -- A store means an image and a number, its writes left.
-use Rattle.std.specs.Prelude.{◌≡◌, ℕ, ◌-◌, Bool, cond, ◌&&◌, List, ◌++◌, length, drop, replicate, Ok, Err, Result, ◌==◌, nat_lt}
+use Rattle.std.specs.Prelude.{◌≡◌, ℕ, ◌-◌, Bool, true, false, cond, ◌&&◌, List, ◌++◌, length, drop, replicate, codes, Ok, Err, Result, ◌==◌, nat_lt}
 use Rattle.std.proofs.lemmas.List.{length-replicate}
 use Rattle.status.specs.declared.errors.CallError.{CallError}
 use Rattle.status.specs.declared.errors.CallError.TheVariants.{SmallBuffer, BadMemory}
+use Rattle.stores.specs.declared.store.WriteRefused.{WriteRefused}
 use Rattle.stores.specs.Sizes.{image_size}
 
 -- the image that bad memory means
@@ -25,6 +26,15 @@ read_after image out = cond (nat_lt (length out) image_size) out (image ++ drop 
 -- whether a new image is written, with so many writes left
 abbrev pub accepted : ℕ → List ℕ → Bool
 accepted left new = length new == image_size && nat_lt 0 left
+
+-- what a write answers, by whether the new image is accepted
+abbrev pub writing : Bool → Result (Unit {0}) WriteRefused
+writing true = Ok tt
+writing false = Err (record {})
+
+-- what the refusal says
+abbrev pub refused_text : List ℕ
+refused_text = codes "write refused"
 
 -- the image after a new one was written or refused
 abbrev pub image_after : List ℕ → ℕ → List ℕ → List ℕ

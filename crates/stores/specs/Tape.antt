@@ -1,49 +1,53 @@
 -- The tape store: records of a kind byte and an image, a shorter tail being ignored.
-use Rattle.std.specs.Prelude.{◌≡◌, ℕ, zero, suc, ◌+◌, ◌-◌, ◌*◌, ◌/◌, ◌<◌, ◌≤◌, Bool, true, false, cond, ◌&&◌, List, ◌∷◌, length, drop, ◌==◌, nat_le, nat_lt, slice_index, slice_set, refl}
-use Rattle.std.proofs.Common.{sym, ap, ◌∙◌, arith, ltb-true, leb-true, eqb-true}
+use Rattle.std.specs.Prelude.{◌≡◌, ℕ, ◌+◌, ◌-◌, ◌*◌, ◌/◌, ◌<◌, ◌≤◌, Bool, true, false, cond, ◌&&◌, List, ◌∷◌, length, drop, ◌==◌, nat_le, nat_lt, slice_index, slice_set, Option, Some, None, refl}
+use Rattle.std.specs.Bool.{then_some}
+use Rattle.std.specs.List.{prefix_len, list_all}
+use Rattle.std.specs.Simd.{first_chunks}
+use Rattle.std.proofs.Common.{zero, suc, ap, arith, ltb-true}
 use Rattle.std.proofs.lemmas.Bool.{and_parts}
+use Rattle.std.proofs.lemmas.List.Sums.{prefix_len-le-length}
+use Rattle.std.proofs.lemmas.Option.{none-some, same_Some}
 use Rattle.octets.specs.Parts.{part, overwritten}
 use Rattle.octets.proofs.Pieces.{length-part}
 use Rattle.stores.specs.Sizes.{image_size, record_size, kind_written, kind_free}
 use Rattle.stores.specs.Meaning.{no_image, length-no_image, accepted}
 
--- how many of the first n records, of w bytes each, were written before one of another kind comes
-unfoldable pub used : ℕ → ℕ → List ℕ → ℕ
-used w zero m = 0
-used w (suc n) m = cond (slice_index m 0 == kind_written) (used w n (drop w m) + 1) 0
-
--- whether the first n records are all free
-unfoldable pub free : ℕ → ℕ → List ℕ → Bool
-free w zero m = true
-free w (suc n) m = slice_index m 0 == kind_free && free w n (drop w m)
-
 -- the number of records in a memory
 abbrev pub records : List ℕ → ℕ
 records m = length m / record_size
 
+-- the records of a memory, one after the other
+abbrev pub cut : List ℕ → List (List ℕ)
+cut m = first_chunks record_size (records m) m
+
+-- whether a record was written, and whether it is free
+abbrev pub is_written : List ℕ → Bool
+is_written r = slice_index r 0 == kind_written
+
+abbrev pub is_free : List ℕ → Bool
+is_free r = slice_index r 0 == kind_free
+
 -- the number of records written at the beginning of a memory
 abbrev pub written : List ℕ → ℕ
-written m = used record_size (records m) m
+written m = prefix_len is_written (cut m)
 
 -- whether a memory is a tape: one or more records written, and then only free ones
 abbrev pub good : List ℕ → Bool
-good m = nat_lt 0 (written m) && free record_size (records m - written m) (drop (record_size * written m) m)
+good m = nat_lt 0 (written m) && list_all is_free (drop (written m) (cut m))
 
--- the place where a tape is written next, as the number of its records written; 0 for bad memory
-abbrev pub place : List ℕ → ℕ
-place m = cond (good m) (written m) 0
+-- the place where a tape is written next, as the number of its records written; none for memory that is no tape
+abbrev pub place : List ℕ → Option ℕ
+place m = then_some (good m) (written m)
 
--- whether that many records can have been written: one or more, and no more than there are
-abbrev pub stands : ℕ → List ℕ → Bool
-stands k m = nat_lt 0 k && nat_le k (records m)
+-- the image in the last of the records written
+abbrev pub image_at : Option ℕ → List ℕ → List ℕ
+image_at None m = no_image
+image_at (Some k) m = part (record_size * (k - 1) + 1) image_size m
 
--- the image in the last of k records written
-abbrev pub image_at : ℕ → List ℕ → List ℕ
-image_at k m = cond (stands k m) (part (record_size * (k - 1) + 1) image_size m) no_image
-
--- the records that are left behind k written ones
-abbrev pub left_at : ℕ → List ℕ → ℕ
-left_at k m = cond (stands k m) (records m - k) 0
+-- the records that are left behind those written
+abbrev pub left_at : Option ℕ → List ℕ → ℕ
+left_at None m = 0
+left_at (Some k) m = records m - k
 
 -- the image that a memory means
 abbrev pub tape_image : List ℕ → List ℕ
@@ -57,9 +61,9 @@ tape_left m = left_at (place m) m
 abbrev pub written_record : List ℕ → List ℕ
 written_record image = kind_written ∷ image
 
--- the memory with k records written after a new image was written or refused
-abbrev pub tape_written : ℕ → List ℕ → List ℕ → List ℕ
-tape_written k m new = cond (accepted (left_at k m) new) (overwritten (record_size * k) (written_record new) m) m
+-- the memory after a new image was written or refused
+abbrev pub tape_written : List ℕ → List ℕ → List ℕ
+tape_written m new = cond (accepted (tape_left m) new) (overwritten (record_size * written m) (written_record new) m) m
 
 -- a memory in which the k records behind the first are free; only their kind bytes are set
 unfoldable pub freed : ℕ → List ℕ → List ℕ
@@ -79,38 +83,39 @@ tape_laid image m = cond (tape_fits image m) (freed (records m - 1) (overwritten
 abbrev pub CutShort : List ℕ → Type 0
 CutShort m =
     (body : List ℕ) → length body ≡ image_size → 0 < tape_left m →
-    let cut = overwritten (record_size * place m + 1) body m in (tape_image cut ≡ tape_image m) × (tape_left cut ≡ tape_left m)
+    let half = overwritten (record_size * written m + 1) body m in (tape_image half ≡ tape_image m) × (tape_left half ≡ tape_left m)
 
--- no more records are used than there are
-used-le : (w n : ℕ) (m : List ℕ) → used w n m ≤ n
-unfolding used
-used-le w zero m = omega arith
-used-le w (suc n) m =
-    let h = used-le w n (drop w m) in
-    elim (slice_index m 0 == kind_written) as (λ b. cond b (used w n (drop w m) + 1) 0 ≤ suc n) [ true ↦ omega (arith, h) | false ↦ omega arith ]
+-- a memory has as many records as it is cut into
+length-first_chunks : (w n : ℕ) (m : List ℕ) → length (first_chunks w n m) ≡ n
+length-first_chunks w zero m = refl
+length-first_chunks w (suc n) m = ap suc (length-first_chunks w n (drop w m))
+
+pub length_cut : (m : List ℕ) → length (cut m) ≡ records m
+length_cut m = length-first_chunks record_size (records m) m
+
+-- a test that gives a number holds, and the number is the one that it was asked for
+pub some_of : (b : Bool) (n k : ℕ) → then_some b n ≡ Some k → (b ≡ true) × (n ≡ k)
+some_of true n k e = (refl, same_Some n k e)
+some_of false n k e = absurd (none-some k e)
 
 -- the place is among the records
-pub place-le : (m : List ℕ) → place m ≤ records m
-place-le m =
-    let h = used-le record_size (records m) m in
-    elim (good m) as (λ b. cond b (written m) 0 ≤ records m) [ true ↦ h | false ↦ omega arith ]
+pub place-le : (k : ℕ) (m : List ℕ) → place m ≡ Some k → (k ≡ written m) × ((0 < k) × (k ≤ records m))
+place-le k m e =
+    let (g, s) = some_of (good m) (written m) k e in
+    let some = ltb-true 0 (written m) (and_parts _ _ g).0 in
+    let le = prefix_len-le-length is_written (cut m) in
+    let n = length_cut m in
+    (omega (arith, s), (omega (arith, s, some), omega (arith, s, le, n)))
 
--- an image has its size, whatever the memory
-pub image_whole : (k : ℕ) (m : List ℕ) → length (image_at k m) ≡ image_size
-image_whole k m = go (stands k m) refl
-  where
-    at : ℕ
-    at = record_size * (k - 1) + 1
+-- an image has its size, at each place among the records of a memory, and at none
+pub image_whole : (p : Option ℕ) (m : List ℕ) → ((k : ℕ) → p ≡ Some k → (0 < k) × (k ≤ records m)) → length (image_at p m) ≡ image_size
+image_whole None m h = length-no_image
+image_whole (Some k) m h = let i = h k refl in length-part (record_size * (k - 1) + 1) image_size m (omega (arith, i.0, i.1))
 
-    go : (b : Bool) → stands k m ≡ b → length (cond b (part at image_size m) no_image) ≡ image_size
-    go false e = length-no_image
-    go true e =
-        let some = ltb-true 0 k (and_parts _ _ e).0 in
-        let within = leb-true k (records m) (and_parts (nat_lt 0 k) _ e).1 in
-        length-part at image_size m (omega arith)
+-- and so has the image that a memory means
+pub tape_whole : (m : List ℕ) → length (tape_image m) ≡ image_size
+tape_whole m = image_whole (place m) m (λ k e. (place-le k m e).1)
 
--- two stores that stand at the places of their memories mean the same over the same memory
-pub one_place : (j k : ℕ) (m n : List ℕ) → (j == place m) ≡ true → (k == place n) ≡ true → m ≡ n → (image_at j m ≡ image_at k n) × (left_at j m ≡ left_at k n)
-one_place j k m n ej ek e =
-    let same : j ≡ k = eqb-true j (place m) ej ∙ ap place e ∙ sym (eqb-true k (place n) ek) in
-    (ap (λ i. image_at i m) same ∙ ap (image_at k) e, ap (λ i. left_at i m) same ∙ ap (left_at k) e)
+-- stores at the places of their memories mean the same over the same memory
+pub one_place : (m n : List ℕ) → m ≡ n → (tape_image m ≡ tape_image n) × (tape_left m ≡ tape_left n)
+one_place m n e = (ap tape_image e, ap tape_left e)

@@ -1,12 +1,11 @@
 // The flat store: the writes left, then the image.
-ghost use Rattle.std.specs.Prelude.{◌≡◌, ◌<◌, true, length, Ok};
+ghost use Rattle.std.specs.Prelude.{◌≡◌, ◌≢◌, length, take, drop, Ok, MatchOption};
 ghost use Rattle.std.proofs.Common.{ap};
-ghost use Rattle.stores.specs.Meaning.{readable, read_after, accepted, image_after, left_after, laying};
-ghost use Rattle.stores.specs.Sizes.{image_size, flat_size};
+ghost use Rattle.stores.specs.Meaning.{accepted, writing, image_after, left_after, laying};
+ghost use Rattle.stores.specs.Sizes.{left_width, flat_size};
 ghost use Rattle.stores.specs.Flat.{flat_filled, flat_image, flat_left, flat_written, flat_fits, flat_laid, flat_whole};
 
-use crate::store::{IMAGE_SIZE, Store, give, give_zeros};
-use octets::read_be;
+use crate::store::{IMAGE_SIZE, Store, WriteRefused, give, no_image};
 use status::CallError;
 
 // The bytes of the writes left, and of the whole memory.
@@ -43,16 +42,19 @@ impl<'m> FlatStore<'m> {
         left_in(self.memory)
     }
 
-    // Writes a new image by a store that is made over a memory and ends: what the memory then means is what that store
-    // meant.
-    pub fn write_to(memory: &mut [u8], new: &[u8]) -> bool
-        ensures value { result ≡ accepted (flat_left memory.old) new.now }
+    // Writes a new image over the old one in a memory, as a store over it does.
+    #[tactic(auto, using(crate::proofs::Flats::value_put, crate::proofs::Flats::image_put, crate::proofs::Flats::left_put, crate::proofs::Flats::memory_put))]
+    pub fn write_to(memory: &mut [u8], new: &[u8]) -> Result<(), WriteRefused>
+        ensures value { result ≡ writing (accepted (flat_left memory.old) new.now) }
         ensures after { memory.new ≡ flat_written memory.old new.now }
         ensures image { flat_image memory.new ≡ image_after (flat_image memory.old) (flat_left memory.old) new.now }
         ensures left { flat_left memory.new ≡ left_after (flat_left memory.old) new.now }
     {
-        let mut store = FlatStore::new(memory);
-        store.write(new)
+        let rest = left_in(memory).checked_sub(1).ok_or(WriteRefused)?;
+        let image = new.as_array().ok_or(WriteRefused)?;
+        let memory = memory.as_mut_array().ok_or(WriteRefused)?;
+        fill(memory, rest, image);
+        Ok(())
     }
 
     // Lays an image and its writes left in a memory.
@@ -62,60 +64,44 @@ impl<'m> FlatStore<'m> {
         ensures image { result ≡ Ok tt → flat_image memory.new ≡ image.now }
         ensures left { result ≡ Ok tt → flat_left memory.new ≡ left }
     {
-        if image.len() != IMAGE_SIZE || memory.len() != FLAT_SIZE {
-            return Err(CallError::BadMemory);
-        }
+        let image = image.as_array().ok_or(CallError::BadMemory)?;
+        let memory = memory.as_mut_array().ok_or(CallError::BadMemory)?;
         fill(memory, left, image);
         Ok(())
     }
 }
 
 // Fills the memory with writes left and an image.
-fn fill(memory: &mut [u8], left: u32, image: &[u8])
-    requires { (length memory.old ≡ flat_size) × (length image.now ≡ image_size) }
+fn fill(memory: &mut [u8; FLAT_SIZE], left: u32, image: &[u8; IMAGE_SIZE])
     ensures after { memory.new ≡ flat_filled left image.now }
     ensures image { flat_image memory.new ≡ image.now }
     ensures left { flat_left memory.new ≡ left }
 {
-    memory[0..LEFT_WIDTH].copy_from_slice(&left.to_be_bytes());
-    memory[LEFT_WIDTH..FLAT_SIZE].copy_from_slice(image);
+    memory[..LEFT_WIDTH].copy_from_slice(&left.to_be_bytes());
+    memory[LEFT_WIDTH..].copy_from_slice(image);
 }
 
-// The writes left that a memory means; only a memory of the right size has any.
+// The bytes of the writes left and the image in a memory; only one of the right size has any.
+fn parts(memory: &[u8]) -> Option<(&[u8; LEFT_WIDTH], &[u8; IMAGE_SIZE])>
+    ensures { MatchOption result (length memory.now ≢ flat_size) (λ p. (length memory.now ≡ flat_size) × (p.0.now ≡ take left_width memory.now) × (p.1.now ≡ drop left_width memory.now)) }
+{
+    let (left, image) = memory.split_first_chunk()?;
+    Some((left, image.as_array()?))
+}
+
+// The writes left that a memory means.
 fn left_in(memory: &[u8]) -> u32
-    ensures value { result ≡ flat_left memory.now }
-    ensures sized { 0 < result → length memory.now ≡ flat_size }
+    ensures { result ≡ flat_left memory.now }
 {
-    if memory.len() != FLAT_SIZE {
-        return 0;
-    }
-    read_be(&memory[0..LEFT_WIDTH]).unwrap() as u32
+    parts(memory).map_or(0, |(left, _)| u32::from_be_bytes(*left))
 }
 
-// Reads the image that a memory means.
-fn read_flat(memory: &[u8], out: &mut [u8]) -> Result<(), CallError>
-    ensures value { result ≡ readable (length out.old) }
-    ensures after { out.new ≡ read_after (flat_image memory.now) out.old }
+// The image that a memory means.
+#[tactic(auto, using(crate::proofs::Flats::flat_image_good, crate::proofs::Flats::flat_image_bad))]
+fn image_in(memory: &[u8]) -> &[u8; IMAGE_SIZE]
+    ensures { result.now ≡ flat_image memory.now }
 {
-    if memory.len() != FLAT_SIZE {
-        return give_zeros(out);
-    }
-    give(&memory[LEFT_WIDTH..FLAT_SIZE], out)
-}
-
-// Writes a new image over the old one.
-fn write_flat(memory: &mut [u8], new: &[u8]) -> bool
-    ensures value { result ≡ accepted (flat_left memory.old) new.now }
-    ensures image { flat_image memory.new ≡ image_after (flat_image memory.old) (flat_left memory.old) new.now }
-    ensures left { flat_left memory.new ≡ left_after (flat_left memory.old) new.now }
-    ensures after { memory.new ≡ flat_written memory.old new.now }
-{
-    let left = left_in(memory);
-    if left == 0 || new.len() != IMAGE_SIZE {
-        return false;
-    }
-    fill(memory, left - 1, new);
-    true
+    parts(memory).map_or(no_image(), |(_, image)| image)
 }
 
 impl Store for FlatStore<'_> {
@@ -131,15 +117,13 @@ impl Store for FlatStore<'_> {
 
     ghost lender = { λ s. s.memory.ghost_name };
 
-    ghost faithful = { λ s. true };
-
-    ghost meant = { λ s t _ _ e. (ap flat_image e, ap flat_left e) };
+    ghost meant = { λ s t e. (ap flat_image e, ap flat_left e) };
 
     fn read(&self, out: &mut [u8]) -> Result<(), CallError> {
-        read_flat(self.memory, out)
+        give(image_in(self.memory), out)
     }
 
-    fn write(&mut self, new: &[u8]) -> bool {
-        write_flat(self.memory, new)
+    fn write(&mut self, new: &[u8]) -> Result<(), WriteRefused> {
+        FlatStore::write_to(self.memory, new)
     }
 }

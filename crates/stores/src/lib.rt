@@ -6,5 +6,5 @@ pub mod store;
 pub mod tape;
 
 pub use flat::{FLAT_SIZE, FlatStore};
-pub use store::{IMAGE_SIZE, Store};
+pub use store::{IMAGE_SIZE, Store, WriteRefused};
 pub use tape::{RECORD_SIZE, TapeStore};

@@ -1,4 +1,5 @@
-// Commands at their greatest lengths, and one byte short of them or past them.
+// Commands at their greatest lengths, and one byte short of them or past them: a test for each, so that its name says what
+// fails.
 use apdu::{Fault, Kind};
 use std::alloc::{AllocError, Global};
 use std::test::Fail;
@@ -7,9 +8,7 @@ use std::test::Fail;
 fn sign(heap: Global, lc: &[u8], len: usize, tail: &[u8]) -> Result<Vec<u8>, AllocError> {
     let mut bytes = Vec::from_slice(heap, &[0x88, 0x13, 0x04, 0x00])?;
     bytes.extend_from_slice(lc)?;
-    for i in 0..len {
-        bytes.push((i % 251) as u8)?;
-    }
+    bytes.extend((0..251u8).cycle().take(len))?;
     bytes.extend_from_slice(tail)?;
     Ok(bytes)
 }
@@ -39,9 +38,7 @@ fn longest_command(rt: HostRuntime) -> Result<(), Fail> {
 #[test]
 fn longest_body_is_the_part_behind_lc(rt: HostRuntime) -> Result<(), Fail> {
     let bytes = sign(rt.alloc(), &[0x00, 0xff, 0xff], 65535, &[0x12, 0x34])?;
-    let Ok(command) = apdu::read(&bytes) else {
-        return Err(Fail::new("no command"));
-    };
+    let command = apdu::read(&bytes)?;
     assert_eq!(rt; command.kind(), Kind::Sign);
     let body = command.request().body;
     assert!(rt; body.len() == 65535);

@@ -1,6 +1,6 @@
 // Numbers of several bytes, status words and call numbers.
-use octets::{copy_at, read_be, write_be};
-use status::{CallError, StatusWord};
+use octets::{DoesNotFit, copy_at, read_be, write_be};
+use status::{CallError, StatusWord, UnknownWord};
 
 #[test]
 fn read_at_each_width(rt: HostRuntime) {
@@ -18,36 +18,44 @@ fn read_at_each_width(rt: HostRuntime) {
 #[test]
 fn write_at_each_width(rt: HostRuntime) {
     let mut two = [0xee; 2];
-    assert!(rt; write_be(&mut two, 0x6a80));
+    assert_eq!(rt; write_be(&mut two, 0x6a80), Ok(()));
     assert_eq!(rt; two, [0x6a, 0x80]);
     let mut seven = [0xee; 7];
-    assert!(rt; write_be(&mut seven, 1000000000000000));
+    assert_eq!(rt; write_be(&mut seven, 1000000000000000), Ok(()));
     assert_eq!(rt; seven, [0x03, 0x8d, 0x7e, 0xa4, 0xc6, 0x80, 0x00]);
 }
 
 #[test]
 fn too_large_a_number_is_refused(rt: HostRuntime) {
     let mut seven = [0xee; 7];
-    assert!(rt; !write_be(&mut seven, 1 << 56));
+    assert_eq!(rt; write_be(&mut seven, 1 << 56), Err(DoesNotFit));
     assert_eq!(rt; seven, [0xee; 7]);
-    assert!(rt; write_be(&mut seven, (1 << 56) - 1));
+    assert_eq!(rt; write_be(&mut seven, (1 << 56) - 1), Ok(()));
     assert_eq!(rt; seven, [0xff; 7]);
 }
 
 #[test]
 fn copies_keep_what_is_around(rt: HostRuntime) {
     let mut buffer = [0xee; 5];
-    assert!(rt; copy_at(&mut buffer, 3, &[1, 2]));
+    assert_eq!(rt; copy_at(&mut buffer, 3, &[1, 2]), Ok(()));
     assert_eq!(rt; buffer, [0xee, 0xee, 0xee, 1, 2]);
-    assert!(rt; !copy_at(&mut buffer, 4, &[3, 4]));
-    assert!(rt; !copy_at(&mut buffer, usize::MAX, &[3, 4]));
+    assert_eq!(rt; copy_at(&mut buffer, 4, &[3, 4]), Err(DoesNotFit));
+    assert_eq!(rt; copy_at(&mut buffer, usize::MAX, &[3, 4]), Err(DoesNotFit));
     assert_eq!(rt; buffer, [0xee, 0xee, 0xee, 1, 2]);
 }
 
 #[test]
 fn words_and_numbers(rt: HostRuntime) {
-    assert_eq!(rt; StatusWord::Success.value(), 0x9000);
-    assert_eq!(rt; StatusWord::UnsoundImage.value(), 0x6f00);
-    assert_eq!(rt; CallError::SmallBuffer.number(), 1);
-    assert_eq!(rt; CallError::BadMemory.number(), 4);
+    assert_eq!(rt; u16::from(StatusWord::Success), 0x9000);
+    assert_eq!(rt; u16::from(StatusWord::UnsoundImage), 0x6f00);
+    assert_eq!(rt; u8::from(CallError::SmallBuffer), 1);
+    assert_eq!(rt; u8::from(CallError::BadMemory), 4);
+}
+
+#[test]
+fn words_of_values(rt: HostRuntime) {
+    assert_eq!(rt; StatusWord::try_from(0x9000), Ok(StatusWord::Success));
+    assert_eq!(rt; StatusWord::try_from(0x6a80), Ok(StatusWord::BadBody));
+    let unknown = UnknownWord { value: 0x9001 };
+    assert_eq!(rt; StatusWord::try_from(0x9001), Err(unknown));
 }

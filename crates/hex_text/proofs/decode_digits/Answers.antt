@@ -1,24 +1,11 @@
-use Rattle.std.proofs.Common.{vec_items, sym, arith}
-use Rattle.std.proofs.lemmas.Result.{err_from_is_err_and}
-use Rattle.hex_text.proofs.Steps.{at_blank, at_byte, byte_within, at_fault, at_end}
+use Rattle.std.proofs.Common.{◌≡◌, false, get_or, vec_items, arith}
+use Rattle.std.proofs.lemmas.Bool.Decides.{nat_tests}
+use Rattle.hex_text.specs.Text.{blank}
+use Rattle.hex_text.proofs.Steps.{at_byte}
 use Rattle.hex_text.proofs.decode_digits.Goals as goal
 
-pub loop-at-preserved-then-is_blank : goal.loop-at-preserved-then-is_blank
-loop-at-preserved-then-is_blank c =
-    (omega arith, at_blank c.args.text.now (vec_items c.loop-at.bytes) c.loop-at.at _ c.loop-at-test.true (sym c.if-is_blank.ensures) c.loop-at.invariant.1)
-
-pub returns-in_err-byte : goal.returns-in_err-byte
-returns-in_err-byte c =
-    let p = err_from_is_err_and c.from_residual.result c.from_residual.ensures.1 in
-    let e = c.in_err-byte.field-0.0 in
-    let fault = at_fault c.args.text.now (vec_items c.loop-at.bytes) c.loop-at.at e _ c.loop-at-test.true (sym c.if-is_blank.ensures) c.in_err-byte.ensures.value c.loop-at.invariant.1 in
-    rw (p.1, p.2) (λ _. sym fault)
-
-pub loop-at-preserved : goal.loop-at-preserved
-loop-at-preserved c = (
-  byte_within c.args.text.now c.loop-at.at c.in_ok-byte.ensures.within,
-  at_byte c.args.text.now (vec_items c.loop-at.bytes) (vec_items c.push.new.self) c.loop-at.at c.in_ok-byte.byte _ _ (sym c.if-is_blank.ensures) c.in_ok-byte.ensures.value c.if-is_err.ensures.negation c.push.ensures.items c.loop-at.invariant.1,
-)
-
-pub returns : goal.returns
-returns c = λ _. sym (at_end c.args.text.now (vec_items c.loop-at.bytes) c.loop-at.at _ c.loop-at-test.false c.loop-at.invariant.1)
+pub loop-rest-preserved-in_ok-push-in-len2-up : goal.loop-rest-preserved-in_ok-push-in-len2-up
+loop-rest-preserved-in_ok-push-in-len2-up c =
+    let rest = c.loop-rest.rest.now in
+    let n : blank (get_or rest 0 0) ≡ false = grind (arith, nat_tests) in
+    at_byte rest (vec_items c.loop-rest.bytes) _ c.in_ok-byte_of-in-len2-up.field-0 _ c.in-len2-up.len_at_least n c.in_ok-byte_of-in-len2-up.ensures c.in_ok-push-in-len2-up.ensures.items c.loop-rest.invariant

@@ -1,26 +1,35 @@
-use Rattle.std.proofs.Common.{refl, arith}
-use Rattle.measures.proofs.Rows.{row_ends, row_stops, row_fits}
+use Rattle.std.proofs.Common.{◌≡◌, ◌∙◌, true, false, ap, get_or, drop, map, [], ◌+◌, refl, arith}
+use Rattle.std.specs.Bool.{then_some}
+use Rattle.std.specs.Option.{option_map}
+use Rattle.measures.specs.declared.categories.Category.{Category}
+use Rattle.measures.specs.Categories.{category_at}
+use Rattle.measures.specs.Counted.{category_fits, category_added, row_after}
+use Rattle.measures.proofs.Rows.{row_fits, row_stops, row_ends, fit, no_fit, added_within}
 use Rattle.measures.proofs.row.add_all.Goals as goal
 
-pub loop-i-init : goal.loop-i-init
-loop-i-init c = ((λ k. omega (arith, c.type_inv.row k)), refl)
+pub loop-category-init : goal.loop-category-init
+loop-category-init c = record { long = c.told-values; within = λ k. omega (arith, c.fits-values k); rest = ap (λ cs. row_after cs c.args.values.now) c.each_category-category-items.ensures }
 
-pub returns-then-not-add_category : goal.returns-then-not-add_category
-returns-then-not-add_category c =
+pub returns-in_err-add_category : goal.returns-in_err-add_category
+returns-in_err-add_category c =
+    let f : category_fits (category_at 0 (get_or c.each_category-category-items.result.now c.loop-category.category-index [])) c.loop-category.values ≡ false =
+    no_fit (category_fits (category_at 0 (get_or c.each_category-category-items.result.now c.loop-category.category-index [])) c.loop-category.values)
+    (c.in_err-add_category.ensures.value ∙ ap (λ x. then_some (category_fits x c.loop-category.values) (tt {0})) c.from.ensures) in
+    ap (option_map (λ _. _)) c.from_residual.ensures ∙ row_stops _ c.loop-category.category-index c.loop-category.values _ c.loop-category.invariant.rest (omega arith) c.loop-category.invariant.long f
+
+pub loop-category-preserved : goal.loop-category-preserved
+loop-category-preserved c =
+    let here : Category = category_at 0 (get_or c.each_category-category-items.result.now c.loop-category.category-index []) in
+    let t : category_fits here c.loop-category.values ≡ true =
+    fit (category_fits here c.loop-category.values) c.in_ok-add_category.field-0 (c.in_ok-add_category.ensures.value ∙ ap (λ x. then_some (category_fits x c.loop-category.values) (tt {0})) c.from.ensures) in
+    let e : c.add_category.new.values ≡ category_added here c.loop-category.values = c.in_ok-add_category.ensures.after refl ∙ ap (λ x. category_added x c.loop-category.values) c.from.ensures in
     record {
-      fits = λ z. cc;
-      full = λ z. row_stops c.args.bytes.now c.loop-i.i (omega arith) c.id_at.result c.id_at.ensures c.amount_at.result c.amount_at.ensures c.loop-i.row _ c.loop-i.invariant.1 (cc) (omega arith);
+      long = c.add_category.array_long;
+      within = λ k. omega (arith, added_within here c.loop-category.values t c.loop-category.invariant.within k, ap (λ r. get_or r k 0) e);
+      rest =
+          ap (row_after (map (category_at 0) (drop (c.loop-category.category-index + 1) c.each_category-category-items.result.now))) e
+          ∙ row_fits _ c.loop-category.category-index c.loop-category.values _ c.loop-category.invariant.rest (omega arith) c.loop-category.invariant.long t;
     }
-
-pub loop-i-preserved : goal.loop-i-preserved
-loop-i-preserved c = (
-  (λ k. omega (arith, c.type_inv.row k)),
-  row_fits c.args.bytes.now c.loop-i.i (omega arith) c.id_at.result c.id_at.ensures c.amount_at.result c.amount_at.ensures c.loop-i.row _ c.loop-i.invariant.1 (cc) c.add_category.new.row (c.add_category.ensures.after c.if-not-add_category.false),
-)
 
 pub returns : goal.returns
-returns c =
-    record {
-      fits = λ z. row_ends c.args.bytes.now c.loop-i.i c.loop-i.row _ (omega arith) c.loop-i.invariant.0 c.loop-i.invariant.1;
-      full = λ z. cc;
-    }
+returns c = row_ends _ c.loop-category.category-index c.loop-category.values _ c.loop-category.invariant.rest (omega arith) c.loop-category.invariant.within

@@ -2,6 +2,6 @@ use Rattle.std.proofs.Common.{refl}
 use Rattle.sealers.specs.Bench.{stretched}
 use Rattle.sealers.proofs.bench.BenchSealer.new.Goals as goal
 
-pub returns : goal.returns
+pub returns-clause-known : goal.returns-clause-known
 unfolding stretched
-returns c = record { key = refl; known = refl }
+returns-clause-known c = refl
