@@ -1,5 +1,5 @@
 -- The records of a tape, by their kind bytes.
-use Rattle.std.proofs.Common.{◌≡◌, ℕ, zero, suc, ◌+◌, ◌-◌, ◌*◌, ◌/◌, ◌<◌, ◌≤◌, Bool, true, false, cond, ◌&&◌, eqb, ltb, leb, ◌⊎◌, List, [], ◌∷◌, ◌++◌, length, get_or, take, drop, Option, Some, Ok, sym, refl, ap, ◌∙◌, inl, inr, ⊎_elim, mul-suc, arith, lt-ltb, eqb-true, leb-false, leb-true, length-drop}
+use Rattle.std.proofs.Common.{◌≡◌, ℕ, zero, suc, ◌+◌, ◌-◌, ◌*◌, ◌/◌, ◌<◌, ◌≤◌, Bool, true, false, cond, ◌&&◌, eqb, ltb, leb, ◌⊎◌, List, [], ◌∷◌, ◌++◌, length, get_or, take, drop, Option, Some, Ok, sym, refl, ap, ◌∙◌, inl, inr, ⊎_elim, mul-suc, arith, lt-ltb, ltb-true, le-leb, eqb-true, leb-false, leb-true, length-drop}
 use Rattle.std.specs.Bool.{then_some}
 use Rattle.std.specs.List.{list_all}
 use Rattle.std.specs.Simd.{first_chunks}
@@ -11,8 +11,8 @@ use Rattle.octets.specs.Parts.{part, overwritten}
 use borrow.Rule.Slice.PartMut.{put_mid}
 use Rattle.octets.proofs.Pieces.{put_mid_is, part-before, part_behind, part_right, length-overwritten}
 use Rattle.stores.specs.Sizes.{image_size, record_size, kind_written, kind_free}
-use Rattle.stores.specs.Meaning.{accepted, writing, image_after, left_after}
-use Rattle.stores.specs.Tape.{records, cut, is_written, is_free, written, good, place, image_at, left_at, tape_image, tape_left, written_record, tape_written, CutShort, length_cut, some_of, place-le}
+use Rattle.stores.specs.Meaning.{no_image, accepted, writing, image_after, left_after}
+use Rattle.stores.specs.Tape.{records, cut, is_written, is_free, written, good, place, stands, image_at, left_at, tape_image, tape_left, written_record, tape_written, CutShort, length_cut, some_of, place-le}
 use Rattle.stores.proofs.Writings.{accepted_is}
 
 -- record i of a memory that is cut into n records of w bytes
@@ -89,12 +89,18 @@ tape_of_place k m e = record { some = p.1.0; within = p.1.1; full = full_at; res
 pub kept-le : (k : ℕ) (m : List ℕ) (kept : Option ℕ) → kept ≡ place m → kept ≡ Some k → (0 < k) × (k ≤ records m)
 kept-le k m kept f e = (place-le k m (sym f ∙ e)).1
 
+-- as many records as a memory has can have been written, but none cannot
+pub stands_true : (k : ℕ) (m : List ℕ) → 0 < k → k ≤ records m → stands k m ≡ true
+stands_true k m some within = ap (λ b. b && leb k (records m)) (lt-ltb 0 k some) ∙ le-leb k (records m) within
+
 -- what a good tape means
 pub image_of_tape : (k : ℕ) (m : List ℕ) → Tape k m → tape_image m ≡ part (record_size * (k - 1) + 1) image_size m
-image_of_tape k m t = ap (λ p. image_at p m) (place_of_tape k m t)
+image_of_tape k m t =
+    ap (λ p. image_at p m) (place_of_tape k m t)
+    ∙ ap (λ b. cond b (part (record_size * (k - 1) + 1) image_size m) no_image) (stands_true k m t.some t.within)
 
 pub left_of_tape : (k : ℕ) (m : List ℕ) → Tape k m → tape_left m ≡ records m - k
-left_of_tape k m t = ap (λ p. left_at p m) (place_of_tape k m t)
+left_of_tape k m t = ap (λ p. left_at p m) (place_of_tape k m t) ∙ ap (λ b. cond b (records m - k) 0) (stands_true k m t.some t.within)
 
 -- the image in the last record written, as it is read
 pub image_of_last : (k : ℕ) (m d : List ℕ) (rs : List (List ℕ)) → place m ≡ Some k → rs ≡ cut m → drop 1 (get_or rs (k - 1) d) ≡ tape_image m
@@ -105,12 +111,20 @@ image_of_last k m d rs p e =
     ∙ drop-take 1 image_size (drop (record_size * i) m) ∙ ap (take image_size) (drop-drop 1 (record_size * i) m) ∙ sym (image_of_tape k m t)
 
 -- records are left only behind some that were written
-left_some : (m : List ℕ) → 0 < tape_left m → Tape (written m) m × (written m < records m)
-left_some m h = go (good m) refl h
+pub left_some : (k : ℕ) (m : List ℕ) → 0 < left_at (Some k) m → (0 < k) × (k < records m)
+left_some k m h = go (stands k m) refl h
+  where
+    go : (b : Bool) → stands k m ≡ b → 0 < cond b (records m - k) 0 → (0 < k) × (k < records m)
+    go false e l = absurd (omega arith)
+    go true e l = (ltb-true 0 k (and_parts _ _ e).0, omega arith)
+
+-- and then the memory is a good tape
+left_tape : (m : List ℕ) → 0 < tape_left m → Tape (written m) m × (written m < records m)
+left_tape m h = go (good m) refl h
   where
     go : (b : Bool) → good m ≡ b → 0 < left_at (then_some b (written m)) m → Tape (written m) m × (written m < records m)
     go false g l = absurd (omega arith)
-    go true g l = (tape_of_place (written m) m (ap (λ b. then_some b (written m)) g), omega arith)
+    go true g l = (tape_of_place (written m) m (ap (λ b. then_some b (written m)) g), (left_some (written m) m l).1)
 
 -- single bytes of a list that was overwritten
 byte_part : (j : ℕ) (m : List ℕ) → get_or (part j 1 m) 0 0 ≡ get_or m j 0
@@ -231,7 +245,7 @@ module _ (k : ℕ) (m body : List ℕ) (t : Tape k m) (room : k < records m) (si
   left_short = left_of_tape k C tape_cut ∙ ap (λ n. n / record_size - k) length-cut ∙ sym (left_of_tape k m t)
 
 pub cut_short : (m : List ℕ) → CutShort m
-cut_short m body size some = let l = left_some m some in (image_short (written m) m body l.0 l.1 size, left_short (written m) m body l.0 l.1 size)
+cut_short m body size some = let l = left_tape m some in (image_short (written m) m body l.0 l.1 size, left_short (written m) m body l.0 l.1 size)
 
 -- a write as the code leaves the memory
 module _ (k : ℕ) (m slot new : List ℕ) (s : slot ≡ written_record new) (size : length new ≡ image_size) (p : place m ≡ Some k) (room : k < records m) where

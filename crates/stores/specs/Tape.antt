@@ -3,7 +3,7 @@ use Rattle.std.specs.Prelude.{◌≡◌, ℕ, ◌+◌, ◌-◌, ◌*◌, ◌/◌
 use Rattle.std.specs.Bool.{then_some}
 use Rattle.std.specs.List.{prefix_len, list_all}
 use Rattle.std.specs.Simd.{first_chunks}
-use Rattle.std.proofs.Common.{zero, suc, ap, arith, ltb-true}
+use Rattle.std.proofs.Common.{zero, suc, sym, ap, ◌∙◌, arith, ltb-true, leb-true}
 use Rattle.std.proofs.lemmas.Bool.{and_parts}
 use Rattle.std.proofs.lemmas.List.Sums.{prefix_len-le-length}
 use Rattle.std.proofs.lemmas.Option.{none-some, same_Some}
@@ -39,15 +39,19 @@ good m = nat_lt 0 (written m) && list_all is_free (drop (written m) (cut m))
 abbrev pub place : List ℕ → Option ℕ
 place m = then_some (good m) (written m)
 
--- the image in the last of the records written
+-- whether that many records can have been written: one or more, and no more than there are
+abbrev pub stands : ℕ → List ℕ → Bool
+stands k m = nat_lt 0 k && nat_le k (records m)
+
+-- the image in the last of k records written
 abbrev pub image_at : Option ℕ → List ℕ → List ℕ
 image_at None m = no_image
-image_at (Some k) m = part (record_size * (k - 1) + 1) image_size m
+image_at (Some k) m = cond (stands k m) (part (record_size * (k - 1) + 1) image_size m) no_image
 
--- the records that are left behind those written
+-- the records that are left behind k written ones
 abbrev pub left_at : Option ℕ → List ℕ → ℕ
 left_at None m = 0
-left_at (Some k) m = records m - k
+left_at (Some k) m = cond (stands k m) (records m - k) 0
 
 -- the image that a memory means
 abbrev pub tape_image : List ℕ → List ℕ
@@ -107,15 +111,27 @@ place-le k m e =
     let n = length_cut m in
     (omega (arith, s), (omega (arith, s, some), omega (arith, s, le, n)))
 
--- an image has its size, at each place among the records of a memory, and at none
-pub image_whole : (p : Option ℕ) (m : List ℕ) → ((k : ℕ) → p ≡ Some k → (0 < k) × (k ≤ records m)) → length (image_at p m) ≡ image_size
-image_whole None m h = length-no_image
-image_whole (Some k) m h = let i = h k refl in length-part (record_size * (k - 1) + 1) image_size m (omega (arith, i.0, i.1))
+-- an image has its size, whatever the place and the memory
+pub image_whole : (p : Option ℕ) (m : List ℕ) → length (image_at p m) ≡ image_size
+image_whole None m = length-no_image
+image_whole (Some k) m = go (stands k m) refl
+  where
+    at : ℕ
+    at = record_size * (k - 1) + 1
+
+    go : (b : Bool) → stands k m ≡ b → length (cond b (part at image_size m) no_image) ≡ image_size
+    go false e = length-no_image
+    go true e =
+        let some = ltb-true 0 k (and_parts _ _ e).0 in
+        let within = leb-true k (records m) (and_parts (nat_lt 0 k) _ e).1 in
+        length-part at image_size m (omega arith)
 
 -- and so has the image that a memory means
 pub tape_whole : (m : List ℕ) → length (tape_image m) ≡ image_size
-tape_whole m = image_whole (place m) m (λ k e. (place-le k m e).1)
+tape_whole m = image_whole (place m) m
 
--- stores at the places of their memories mean the same over the same memory
-pub one_place : (m n : List ℕ) → m ≡ n → (tape_image m ≡ tape_image n) × (tape_left m ≡ tape_left n)
-one_place m n e = (ap tape_image e, ap tape_left e)
+-- two stores that stand at the places of their memories mean the same over the same memory
+pub one_place : (j k : Option ℕ) (m n : List ℕ) → j ≡ place m → k ≡ place n → m ≡ n → (image_at j m ≡ image_at k n) × (left_at j m ≡ left_at k n)
+one_place j k m n ej ek e =
+    let same : j ≡ k = ej ∙ ap place e ∙ sym ek in
+    (ap (λ i. image_at i m) same ∙ ap (image_at k) e, ap (λ i. left_at i m) same ∙ ap (left_at k) e)

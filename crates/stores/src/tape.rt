@@ -1,5 +1,5 @@
 // The tape store: records of a kind byte and an image, written one after the other.
-ghost use Rattle.std.specs.Prelude.{◌≡◌, ◌-◌, ◌<◌, ◌≤◌, ◌∷◌, length, drop, Ok, Some, MatchOption, slice_index};
+ghost use Rattle.std.specs.Prelude.{◌≡◌, ◌-◌, ◌<◌, ◌≤◌, ◌∷◌, length, drop, refl, Ok, Some, MatchOption, slice_index};
 ghost use Rattle.std.specs.List.{prefix_len, list_all};
 ghost use Rattle.stores.specs.Sizes.{record_size, kind_free};
 ghost use Rattle.stores.specs.Meaning.{accepted, writing, image_after, left_after, laying};
@@ -181,7 +181,7 @@ impl Store for TapeStore<'_> {
 
     ghost lender = { λ s. s.memory.ghost_name };
 
-    ghost meant = { λ s t. one_place s.memory.now t.memory.now };
+    ghost meant = { λ s t. one_place (place s.memory.now) (place t.memory.now) s.memory.now t.memory.now refl refl };
 
     fn read(&self, out: &mut [u8]) -> Result<(), CallError> {
         give(self.image(), out)
