@@ -14,6 +14,10 @@ pub record Keeps (cover seal : List ℕ → Option (List ℕ)) : Type 0 where
 abbrev pub small : List ℕ → Bool
 small out = nat_lt (length out) answer_size
 
+-- what is answered before a rule is asked: a refusal of a small buffer
+abbrev pub room : List ℕ → Result (Unit {0}) CallError
+room out = cond (small out) (Err SmallBuffer) (Ok tt)
+
 -- what a call answers: a refusal of a small buffer, else whether its rule gives an answer
 abbrev pub sealer_value : Option (List ℕ) → List ℕ → Result Bool CallError
 sealer_value given out = cond (small out) (Err SmallBuffer) (Ok (is_some given))

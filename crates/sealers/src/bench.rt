@@ -4,7 +4,7 @@ ghost use Rattle.sealers.specs.Bench.{key_byte, mixed, top, covered, sealed, ben
 ghost use Rattle.sealers.specs.Runs.{Begins};
 ghost use Rattle.sealers.specs.Kept.{bench_keeps};
 
-use crate::rules::{ANSWER_SIZE, BLOCK_SIZE, Sealer, place};
+use crate::rules::{ANSWER_SIZE, BLOCK_SIZE, Sealer, check_room, place};
 use status::CallError;
 
 // What each step of a seal multiplies by.
@@ -33,10 +33,12 @@ impl Sealer for BenchSealer {
     ghost kept = { λ s. bench_keeps s.key };
 
     fn cover(&mut self, block: &[u8], out: &mut [u8]) -> Result<bool, CallError> {
+        check_room(out)?;
         place(cover_of(self.key, block), out)
     }
 
     fn seal(&mut self, message: &[u8], out: &mut [u8]) -> Result<bool, CallError> {
+        check_room(out)?;
         place(Some(seal_of(self.key, message)), out)
     }
 }

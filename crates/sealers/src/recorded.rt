@@ -5,7 +5,7 @@ ghost use Rattle.std.specs.List.{find};
 ghost use Rattle.sealers.specs.Deck.{kind_of, entry_read, entry_result, answers, entry_in, first_entry, entries, recorded, recorded_cover, recorded_seal};
 ghost use Rattle.sealers.specs.Kept.{recorded_keeps};
 
-use crate::rules::{ANSWER_SIZE, Sealer, place};
+use crate::rules::{ANSWER_SIZE, Sealer, check_room, place};
 use status::CallError;
 
 #[derive(Clone, Copy, PartialEq, Eq)]
@@ -135,10 +135,12 @@ impl Sealer for RecordedSealer<'_> {
     ghost kept = { λ s. recorded_keeps s.deck.now };
 
     fn cover(&mut self, block: &[u8], out: &mut [u8]) -> Result<bool, CallError> {
+        check_room(out)?;
         place(self.answer(Rule::Cover, block), out)
     }
 
     fn seal(&mut self, message: &[u8], out: &mut [u8]) -> Result<bool, CallError> {
+        check_room(out)?;
         place(self.answer(Rule::Seal, message), out)
     }
 }

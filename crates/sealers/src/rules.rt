@@ -1,6 +1,6 @@
 // What a sealer means: two rules that never change, and a call for each.
 ghost use Rattle.std.specs.Prelude.{◌≡◌, ℕ, List, Option};
-ghost use Rattle.sealers.specs.Rules.{Keeps, sealer_value, sealer_after};
+ghost use Rattle.sealers.specs.Rules.{Keeps, room, sealer_value, sealer_after};
 
 use status::CallError;
 
@@ -35,6 +35,17 @@ pub trait Sealer {
         ensures after { out.new ≡ sealer_after (seal_rule self.old message.now) out.old }
         ensures cover_kept { cover_rule self.new ≡ cover_rule self.old }
         ensures seal_kept { seal_rule self.new ≡ seal_rule self.old };
+}
+
+// Refuses a buffer that is too small for an answer. It is asked before a rule is: what that takes grows with the message
+// or the deck.
+pub(crate) fn check_room(out: &[u8]) -> Result<(), CallError>
+    ensures { result ≡ room out.now }
+{
+    if out.len() < ANSWER_SIZE {
+        return Err(CallError::SmallBuffer);
+    }
+    Ok(())
 }
 
 // Writes what a rule gives to the front of `out`, and says whether it gives an answer.
