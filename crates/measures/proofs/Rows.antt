@@ -36,7 +36,7 @@ added_within c row t all k =
     set_within row (c.id - 1) (get_or row (c.id - 1) 0 + c.amount) money_ceiling k within all
 
 -- categories make no number of a row smaller
-row_grows : (cs : List Category) (row : List ℕ) (k : ℕ) → get_or row k 0 ≤ get_or (row_added cs row) k 0
+pub row_grows : (cs : List Category) (row : List ℕ) (k : ℕ) → get_or row k 0 ≤ get_or (row_added cs row) k 0
 row_grows [] row k = omega arith
 row_grows (c ∷ cs) row k = omega (arith, set_grows row (c.id - 1) c.amount k, row_grows cs (category_added c row) k)
 
@@ -45,7 +45,7 @@ and_false true = refl
 and_false false = refl
 
 -- a row in which a number is above the ceiling
-after_above : (cs : List Category) (row : List ℕ) (k : ℕ) → money_ceiling < get_or row k 0 → row_after cs row ≡ None
+pub after_above : (cs : List Category) (row : List ℕ) (k : ℕ) → money_ceiling < get_or row k 0 → row_after cs row ≡ None
 after_above cs row k h =
     let f : list_all (λ n. leb n money_ceiling) (row_added cs row) ≡ false = one_above money_ceiling (row_added cs row) k (omega (arith, row_grows cs row k)) in
     ap (λ b. cond (ids_known cs && b) (Some (row_added cs row)) None) f ∙ ap (λ b. cond b (Some (row_added cs row)) None) (and_false (ids_known cs))
