@@ -1,18 +1,20 @@
 -- Numbers of one width that lie side by side.
-use Rattle.std.proofs.Common.{◌≡◌, ℕ, zero, suc, ◌+◌, ◌*◌, ◌^◌, ◌<◌, ◌≤◌, true, cond, List, [], ◌∷◌, ◌++◌, length, get_or, take, drop, Some, None, Fits, w8, sym, refl, ap, ◌∙◌, mul-suc, arith, lit<, length-append, take-append-drop, length-take, eq-eqb}
+use Rattle.std.proofs.Common.{◌≡◌, ℕ, zero, suc, ◌+◌, ◌*◌, ◌^◌, ◌<◌, ◌≤◌, true, cond, ◌&&◌, ◌==◌, ltb, List, [], ◌∷◌, ◌++◌, length, get_or, take, drop, Some, None, sym, refl, ap, ◌∙◌, mul-suc, arith, lit<, length-append, take-append-drop, length-take, eq-eqb, le-leb, lt-ltb}
 use native.Mathlib.Nat.{pow-le-pow_right}
-use Rattle.std.proofs.lemmas.List.{length-take-le, length-drop, take_at, drop_at, nil_from_length}
+use Rattle.std.proofs.lemmas.List.{length-take-le, length-drop, take_at, take_all, drop_at, drop_all, append-nil, nil_from_length}
 use Rattle.std.proofs.lemmas.List.Concat.{flat_map-cons}
 use Rattle.std.proofs.lemmas.Int.Digits.{number_lt}
 use Rattle.std.proofs.ByRecursion.{All-take, All-drop}
-use Rattle.std.proofs.lemmas.Nat.{from_be_bytes-to_be_bytes_8, be_bytes_4, be_bytes_8}
-use Rattle.std.specs.Int.{w32, w64, from_be_bytes}
+use Rattle.std.proofs.lemmas.Nat.{from_be_bytes-to_be_bytes_8}
+use Rattle.std.specs.Int.{w64, from_be_bytes}
 use Rattle.std.specs.Int.Digits.{AllBelowBase}
 use Rattle.std.specs.List.{flat_map}
 use Rattle.std.specs.Simd.{first_chunks}
-use Rattle.octets.specs.Big.{be, big}
+use Rattle.octets.specs.Big.{be, big, writable, number_written}
+use Rattle.octets.specs.Fits.{fits}
+use Rattle.octets.specs.Parts.{inside, overwritten, copied}
 use Rattle.octets.proofs.Bigs.{length-be, big-be, be-big}
-use Rattle.ledger.specs.Stored.{fields, packed, sized, stored_read}
+use Rattle.ledger.specs.Stored.{fields, packed, sized, stored_read, stored_written}
 
 pub fields_next : (w n : ℕ) (bs : List ℕ) → fields w (suc n) bs ≡ big (take w bs) ∷ fields w n (drop w bs)
 unfolding fields
@@ -66,14 +68,6 @@ fields_below w (suc n) bs u zero h =
     rw (fields_next w n bs) (omega arith)
 fields_below w (suc n) bs u (suc i) h = rw (fields_next w n bs) (fields_below w n (drop w bs) (All-drop (λ d. d < 256) w bs u) i (omega arith))
 
--- numbers whose bytes are there are read from them
-pub read_packed : (w : ℕ) (ns bs : List ℕ) → packed w ns ≡ bs → Below w ns → Some ns ≡ stored_read w (length ns) bs
-read_packed w ns bs e b =
-    let s : sized w (length ns) (packed w ns) ≡ true = eq-eqb (length (packed w ns)) (w * length ns) (length-packed w ns) in
-    let f = fields-packed w ns b in
-    let r : stored_read w (length ns) (packed w ns) ≡ Some (fields w (length ns) (packed w ns)) = ap (λ t. cond t (Some (fields w (length ns) (packed w ns))) None) s in
-    sym (ap (stored_read w (length ns)) (sym e) ∙ r ∙ ap Some f)
-
 -- numbers that were written are read back from where they were copied to
 pub packed_back : (w : ℕ) (ns bs out : List ℕ) → packed w ns ≡ bs → Below w ns → out ≡ bs → fields w (length ns) out ≡ ns
 packed_back w ns bs out e b o = ap (fields w (length ns)) (o ∙ sym e) ∙ fields-packed w ns b
@@ -110,19 +104,43 @@ chunks_read (suc n) (v ∷ vs) bs u l m h =
     let f = fields_next 8 n bs in
     cc
 
--- the bytes of one number are read back
-pub back_4 : (v : ℕ) (out : List ℕ) → v < 2 ^ 32 → out ≡ be 4 v → fields 4 1 out ≡ v ∷ []
-back_4 v out h e = packed_back 4 (v ∷ []) (be 4 v) out refl (below_one 4 v h) e
+-- one number over the whole of a place of its width
+module _ (w v : ℕ) (out : List ℕ) (le : w ≤ 8) (below : v < 256 ^ w) (len : length out ≡ w) where
+  fits_one : writable (length out) v ≡ true
+  fits_one = ap (λ n. writable n v) len ∙ ap (λ b. b && ltb v (256 ^ w)) (le-leb w 8 le) ∙ lt-ltb v (256 ^ w) below
 
-pub back_8 : (v : ℕ) (out : List ℕ) → v < 2 ^ 64 → out ≡ be 8 v → fields 8 1 out ≡ v ∷ []
-back_8 v out h e = packed_back 8 (v ∷ []) (be 8 v) out refl (below_one 8 v h) e
+  whole_one : sized w 1 out ≡ true
+  whole_one = eq-eqb (length out) (w * 1) (omega (arith, len))
 
--- what one number is read from
-pub read_4 : (v : ℕ) (bs : List ℕ) → length bs ≡ 4 → ((i : ℕ) → Fits w8 (get_or bs i 0)) → v < 2 ^ 32 → v ≡ from_be_bytes w32 bs → Some (v ∷ []) ≡ stored_read 4 1 bs
-read_4 v bs l u h e = read_packed 4 (v ∷ []) bs (be_bytes_4 bs v l (λ i. (u i).fits) e) (below_one 4 v h)
+  pub one_value : fits (writable (length out) v) ≡ fits (sized w 1 out)
+  one_value = ap fits (fits_one ∙ sym whole_one)
 
-pub read_8 : (v : ℕ) (bs : List ℕ) → length bs ≡ 8 → ((i : ℕ) → Fits w8 (get_or bs i 0)) → v < 2 ^ 64 → v ≡ from_be_bytes w64 bs → Some (v ∷ []) ≡ stored_read 8 1 bs
-read_8 v bs l u h e = read_packed 8 (v ∷ []) bs (be_bytes_8 bs v l (λ i. (u i).fits) e) (below_one 8 v h)
+  pub one_written : number_written v out ≡ stored_written w 1 (v ∷ []) out
+  one_written =
+      ap (λ b. cond b (be (length out) v) out) fits_one ∙ ap (λ n. be n v) len ∙ sym (append-nil (be w v))
+      ∙ sym (ap (λ b. cond b (be w v ++ []) out) whole_one)
 
-pub bytes_8 : (v : ℕ) (bs : List ℕ) → length bs ≡ 8 → ((i : ℕ) → Fits w8 (get_or bs i 0)) → v ≡ from_be_bytes w64 bs → packed 8 (v ∷ []) ≡ bs
-bytes_8 v bs l u e = be_bytes_8 bs v l (λ i. (u i).fits) e
+  -- and it is read back
+  pub one_back : (new : List ℕ) → new ≡ number_written v out → fields w 1 new ≡ v ∷ []
+  one_back new e =
+      packed_back w (v ∷ []) (packed w (v ∷ [])) new refl (below_one w v below) (e ∙ one_written ∙ ap (λ b. cond b (packed w (v ∷ [])) out) whole_one)
+
+-- what one number is read from, and its bytes
+pub one_read : (w : ℕ) (bs : List ℕ) → length bs ≡ w → Some (big bs ∷ []) ≡ stored_read w 1 bs
+one_read w bs len =
+    let whole : sized w 1 bs ≡ true = eq-eqb (length bs) (w * 1) (omega (arith, len)) in
+    let all : take w bs ≡ bs = take_all w bs (omega (arith, len)) in
+    sym (ap (λ b. cond b (Some (fields w 1 bs)) None) whole ∙ ap Some (fields_next w 0 bs ∙ ap (λ ns. big (take w bs) ∷ ns) (fields_none w (drop w bs)) ∙ ap (λ x. big x ∷ []) all))
+
+pub one_bytes : (w v : ℕ) (bs : List ℕ) → length bs ≡ w → be (length bs) v ≡ bs → packed w (v ∷ []) ≡ bs
+one_bytes w v bs len e = append-nil (be w v) ∙ ap (λ n. be n v) (sym len) ∙ e
+
+-- bytes that were copied over the whole of a place
+pub whole_back : (bytes out new : List ℕ) → length out ≡ length bytes → new ≡ copied 0 bytes out → new ≡ bytes
+whole_back bytes out new len e =
+    let t : inside 0 (length bytes) out ≡ true = le-leb (0 + length bytes) (length out) (omega (arith, len)) in
+    let rest : drop (0 + length bytes) out ≡ [] = drop_all (0 + length bytes) out (omega (arith, len)) in
+    e ∙ ap (λ b. cond b (overwritten 0 bytes out) out) t ∙ ap (λ u. bytes ++ u) rest ∙ append-nil bytes
+
+pub whole_after : (bytes out new : List ℕ) → length out ≡ length bytes → new ≡ copied 0 bytes out → new ≡ cond (length out == length bytes) bytes out
+whole_after bytes out new len e = whole_back bytes out new len e ∙ sym (ap (λ b. cond b bytes out) (eq-eqb (length out) (length bytes) len))

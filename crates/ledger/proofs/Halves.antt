@@ -8,7 +8,7 @@ use Rattle.ledger.proofs.Fields.{Below, length-packed, fields-packed, packed-fie
 use Rattle.ledger.specs.Sides.{packed_sides, sides_in}
 
 -- the sides that were written are read back
-sides-back : (w n : ℕ) (o a b s r : List ℕ) → o ≡ a ++ b → length a ≡ w * n → fields w n a ≡ s → fields w n b ≡ r → sides_in w n o ≡ (s, r)
+pub sides-back : (w n : ℕ) (o a b s r : List ℕ) → o ≡ a ++ b → length a ≡ w * n → fields w n a ≡ s → fields w n b ≡ r → sides_in w n o ≡ (s, r)
 sides-back w n o a b s r e l fs fr =
     let t = take_at a b (w * n) l in
     let d = drop_at a b (w * n) l in

@@ -9,7 +9,9 @@ pub mod storing;
 pub mod tallies;
 
 pub use measures::{
-    Invoice, Measure, Money, Number, Row, Transaction, is_identifier, is_signing_length, sizes,
+    Addend, Category, Invoice, Measure, Money, Number, Row, Sum, Transaction, UnknownTransaction,
+    is_identifier, is_signing_length, sizes,
 };
+pub use octets::DoesNotFit;
 pub use storing::StoredMeasure;
 pub use tallies::Tally;

@@ -2,7 +2,7 @@
 ghost use Rattle.std.proofs.Common.{rules};
 ghost use Rattle.measures.specs.Sizes.{money_size};
 
-use crate::stored::copy_whole;
+use crate::stored::{read_number, write_number};
 use crate::storing::StoredMeasure;
 use measures::Money;
 use measures::sizes::MONEY_SIZE;
@@ -20,13 +20,11 @@ impl StoredMeasure for Money {
 
     ghost room = { Prim.search rules };
 
-    #[tactic(auto, using(crate::proofs::Fields::back_8))]
     fn write(&self, out: &mut [u8]) -> Result<(), DoesNotFit> {
-        copy_whole(out, &self.value().to_be_bytes())
+        write_number::<MONEY_SIZE>(out, self.value())
     }
 
-    #[tactic(auto, using(crate::proofs::Fields::read_8, crate::proofs::Fields::bytes_8))]
     fn read(bytes: &[u8]) -> Option<Money> {
-        Some(Money::new(u64::from_be_bytes(*bytes.as_array()?)))
+        Some(Money::new(read_number::<MONEY_SIZE>(bytes)?))
     }
 }

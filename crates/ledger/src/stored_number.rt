@@ -2,7 +2,7 @@
 ghost use Rattle.std.proofs.Common.{rules};
 ghost use Rattle.measures.specs.Sizes.{number_size};
 
-use crate::stored::copy_whole;
+use crate::stored::{read_number, write_number};
 use crate::storing::StoredMeasure;
 use measures::Number;
 use measures::sizes::NUMBER_SIZE;
@@ -20,13 +20,12 @@ impl StoredMeasure for Number {
 
     ghost room = { Prim.search rules };
 
-    #[tactic(auto, using(crate::proofs::Fields::back_4))]
     fn write(&self, out: &mut [u8]) -> Result<(), DoesNotFit> {
-        copy_whole(out, &self.value().to_be_bytes())
+        write_number::<NUMBER_SIZE>(out, u64::from(self.value()))
     }
 
-    #[tactic(auto, using(crate::proofs::Fields::read_4))]
     fn read(bytes: &[u8]) -> Option<Number> {
-        Some(Number::new(u32::from_be_bytes(*bytes.as_array()?)))
+        // By `as`: four bytes write a u32.
+        Some(Number::new(read_number::<NUMBER_SIZE>(bytes)? as u32))
     }
 }
