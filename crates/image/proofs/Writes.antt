@@ -1,35 +1,21 @@
 -- What writing answers and leaves, by whether the amounts fit.
-use Rattle.std.proofs.Common.{◌≡◌, ℕ, ◌≤◌, Bool, true, false, cond, ◌&&◌, ltb, leb, List, [], ◌∷◌, ◌++◌, length, take, drop, replicate, Some, None, Ok, Err, Option, sym, refl, ap, ◌∙◌, arith, le-ltb, eq-eqb}
+use Rattle.std.proofs.Common.{◌≡◌, ℕ, ◌≤◌, Bool, true, false, cond, ◌&&◌, ltb, leb, List, [], ◌∷◌, ◌++◌, length, take, drop, Some, None, Ok, Err, Option, sym, refl, ap, ◌∙◌, arith, le-ltb, eq-eqb}
 use Rattle.std.proofs.lemmas.List.{take-append-drop, drop_all, append-nil}
-use Rattle.std.specs.Option.{unwrap_or, is_some}
+use Rattle.std.specs.Option.{is_some}
 use Rattle.std.specs.Int.{from_bool}
 use Rattle.status.specs.declared.errors.CallError.{CallError}
 use Rattle.status.specs.declared.errors.CallError.TheVariants.{SmallBuffer, BadField}
 use Rattle.octets.specs.Big.{be}
 use Rattle.stores.specs.Sizes.{image_size}
-use Rattle.image.specs.Places.{answer_width}
-use Rattle.image.specs.Layout.{Meaning, last_flag, last_bytes, no_answer, image_fields, image_bytes}
-use Rattle.image.specs.Filling.{laid}
+use Rattle.image.specs.Layout.{Meaning, last_flag, image_bytes}
 use Rattle.image.specs.Sound.{pin_good}
 use Rattle.image.specs.Personal.{personal, personal_after}
-use Rattle.image.specs.Writing.{amount_max, amounts_fit, fitting, bytes_value, write_value, write_after}
-use Rattle.image.proofs.Parcels.{laid_is}
+use Rattle.image.specs.Writing.{amount_max, amounts_fit, fitting, write_value, write_after}
 
--- the flag of the last answer, and its bytes
+-- the flag of the last answer
 pub flag_stored : (l : Option (List ℕ)) → from_bool (is_some l) ∷ [] ≡ be 1 (last_flag l)
 flag_stored None = refl
 flag_stored (Some a) = refl
-
-pub answer_stored : (l : Option (List ℕ)) → unwrap_or l (replicate answer_width 0) ≡ last_bytes l
-unfolding no_answer
-answer_stored None = refl
-answer_stored (Some a) = refl
-
--- the bytes of an image whose amounts fit
-pub bytes_given : (i : Meaning) (bs : List ℕ) → Ok tt ≡ fitting i → bs ≡ laid [] (image_fields i) → Ok bs ≡ bytes_value i
-bytes_given i bs e is =
-    let fits : amounts_fit i ≡ true = grind arith in
-    ap (λ x. Ok x) (is ∙ laid_is [] (image_fields i)) ∙ sym (ap (λ t. cond t (Ok (image_bytes i)) (Err BadField)) fits)
 
 -- a buffer with room
 module _ (i : Meaning) (out : List ℕ) (room : image_size ≤ length out) where
@@ -40,13 +26,13 @@ module _ (i : Meaning) (out : List ℕ) (room : image_size ≤ length out) where
         sym (λ j. cond (enough j) out (cond (fit j) (image_bytes i ++ drop image_size out) out)),
       )
 
-  pub done : (bs : List ℕ) → Ok bs ≡ bytes_value i → (Ok tt ≡ write_value i out) × (bs ++ drop image_size out ≡ write_after i out)
-  done bs e =
-      let is : (amounts_fit i ≡ true) × (bs ≡ image_bytes i) = grind arith in
-      let fit = by_fit true is.0 in
-      (fit.0, ap (λ x. x ++ drop image_size out) is.1 ∙ fit.1)
+  pub done : (bs : List ℕ) → Ok tt ≡ fitting i → bs ≡ image_bytes i → (Ok tt ≡ write_value i out) × (bs ++ drop image_size out ≡ write_after i out)
+  done bs e is =
+      let fits : amounts_fit i ≡ true = grind arith in
+      let fit = by_fit true fits in
+      (fit.0, ap (λ x. x ++ drop image_size out) is ∙ fit.1)
 
-  pub not_done : (f : CallError) → Err f ≡ bytes_value i → (Err f ≡ write_value i out) × (take image_size out ++ drop image_size out ≡ write_after i out)
+  pub not_done : (f : CallError) → Err f ≡ fitting i → (Err f ≡ write_value i out) × (take image_size out ++ drop image_size out ≡ write_after i out)
   not_done f e =
       let is : (amounts_fit i ≡ false) × (f ≡ BadField) = grind arith in
       let fit = by_fit false is.0 in

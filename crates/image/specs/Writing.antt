@@ -23,10 +23,6 @@ amount_stored v = cond (nat_le v amount_max) (Ok (be amount_width v)) (Err BadFi
 abbrev pub fitting : Meaning → Result (Unit {0}) CallError
 fitting i = cond (amounts_fit i) (Ok tt) (Err BadField)
 
--- the bytes of an image, if its amounts fit
-abbrev pub bytes_value : Meaning → Result (List ℕ) CallError
-bytes_value i = cond (amounts_fit i) (Ok (image_bytes i)) (Err BadField)
-
 -- what writing an image answers: a small buffer is refused first, then an amount that does not fit
 abbrev pub write_value : Meaning → List ℕ → Result (Unit {0}) CallError
 write_value i out = cond (nat_lt (length out) image_size) (Err SmallBuffer) (cond (amounts_fit i) (Ok tt) (Err BadField))

@@ -1,31 +1,39 @@
 // Writing the fields of an image to its bytes.
-ghost use Rattle.std.specs.Prelude.{◌≡◌, ◌^◌, ◌<◌, length, Ok, OnOk};
+ghost use Rattle.std.specs.Prelude.{◌≡◌, ◌^◌, ◌<◌, [], length, Ok, OnOk};
 ghost use Rattle.stores.specs.Sizes.{image_size};
 ghost use Rattle.image.specs.Places.{counters_kind_at, money_kind_at, pin_kind_at, rows_kind_at, last_kind_at, key_kind_at, count_width, sum_width, amount_width, pin_width, answer_width, ids};
-ghost use Rattle.image.specs.Layout.{meaning, mark_counter, mark_amount, last_bytes, counters_record, money_record, pin_record, rows_record, last_record, key_record};
+ghost use Rattle.image.specs.Layout.{meaning, image_bytes, mark_counter, mark_amount, last_bytes, counters_record, money_record, pin_record, rows_record, last_record, key_record};
 ghost use Rattle.image.specs.Filling.{laid};
 ghost use Rattle.image.specs.Fitting.{SidesFit};
 ghost use Rattle.image.specs.Sound.{ReadBack};
-ghost use Rattle.image.specs.Writing.{amount_stored, fitting, bytes_value, write_value, write_after};
+ghost use Rattle.image.specs.Writing.{amount_stored, fitting, write_value, write_after};
 
 use crate::fields::Image;
 use crate::places::{AMOUNT_SIZE, ANSWER_SIZE, Kind};
 use crate::written::Written;
+use octets::write_be;
 use status::CallError;
-use stores::IMAGE_SIZE;
 
-// The largest amount that fits its bytes.
-const AMOUNT_MAX: u64 = (1 << 56) - 1;
-
-// The bytes of an amount, if it fits them.
+// The bytes of an amount, if it fits them. Inlined, as what is written is.
+#[inline(always)]
 fn amount_bytes(amount: u64) -> Result<[u8; AMOUNT_SIZE], CallError>
     ensures value { result ≡ amount_stored amount }
     ensures fits { OnOk result (amount < 256 ^ amount_width) }
 {
-    if amount > AMOUNT_MAX {
-        return Err(CallError::BadField);
+    let mut bytes = [0; AMOUNT_SIZE];
+    write_be(&mut bytes, amount).map_err(|_| CallError::BadField)?;
+    Ok(bytes)
+}
+
+// The bytes of the last answer: zeros where there is none.
+#[tactic(auto, unfolding(crate::specs::Layout::no_answer))]
+fn answer_bytes(last: &Option<[u8; ANSWER_SIZE]>) -> &[u8; ANSWER_SIZE]
+    ensures { result.now ≡ last_bytes last.now }
+{
+    match last {
+        Some(answer) => answer,
+        None => &[0; ANSWER_SIZE],
     }
-    Ok(*amount.to_be_bytes().last_chunk().unwrap())
 }
 
 impl Image {
@@ -36,23 +44,27 @@ impl Image {
         ensures back { result ≡ Ok tt → ReadBack (meaning self.now) }
     {
         let place = out.first_chunk_mut().ok_or(CallError::SmallBuffer)?;
-        *place = self.to_bytes()?;
+        let mut written = Written::new();
+        self.put_records(&mut written)?;
+        *place = *written.whole();
         Ok(())
     }
 
-    // The bytes of the image, if its amounts fit.
-    fn to_bytes(&self) -> Result<[u8; IMAGE_SIZE], CallError>
-        ensures value { result ≡ bytes_value (meaning self.now) }
+    // Writes the six records, if the amounts fit.
+    fn put_records(&self, out: &mut Written) -> Result<(), CallError>
+        requires { out.old ≡ [] }
+        ensures value { result ≡ fitting (meaning self.now) }
+        ensures after { OnOk result (out.new ≡ image_bytes (meaning self.now)) }
+        ensures end { OnOk result (length out.new ≡ image_size) }
         ensures back { OnOk result (ReadBack (meaning self.now)) }
     {
-        let mut out = Written::new();
-        self.put_counters(&mut out);
-        self.put_money(&mut out)?;
-        self.put_pin(&mut out);
-        self.put_rows(&mut out);
-        self.put_last(&mut out);
-        self.put_key(&mut out);
-        Ok(out.whole())
+        self.put_counters(out);
+        self.put_money(out)?;
+        self.put_pin(out);
+        self.put_rows(out);
+        self.put_last(out);
+        self.put_key(out);
+        Ok(())
     }
 
     // Writes record 01. Each record says where it begins and ends, so that there is room for it.
@@ -122,7 +134,7 @@ impl Image {
     {
         out.put(&[Kind::Last as u8]);
         out.put(&[u8::from(self.last.is_some())]);
-        out.put(&self.last.unwrap_or([0; ANSWER_SIZE]));
+        out.put(answer_bytes(&self.last));
     }
 
     // Writes record 06.

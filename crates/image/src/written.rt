@@ -5,6 +5,7 @@ ghost use Rattle.stores.specs.Sizes.{image_size};
 ghost use Rattle.image.specs.Fitting.{SidesFit};
 
 use ledger::{StoredMeasure, Tally};
+use octets::copy_at;
 use std::marker::Model;
 use stores::IMAGE_SIZE;
 
@@ -22,8 +23,10 @@ impl Model for Written {
     ghost invariant = { λ w. w.len ≤ image_size };
 }
 
+// Inlined, so that each place in an image is a constant.
 impl Written {
     // Nothing written yet.
+    #[inline(always)]
     pub(crate) fn new() -> Written
         ensures { result ≡ [] }
     {
@@ -34,17 +37,18 @@ impl Written {
     }
 
     // Writes bytes behind what is written.
+    #[inline(always)]
     pub(crate) fn put(&mut self, bytes: &[u8])
         requires { length self.old + length bytes.now ≤ image_size }
         ensures after { self.new ≡ self.old ++ bytes.now }
         ensures end { length self.new ≡ length self.old + length bytes.now }
     {
-        let end = self.len + bytes.len();
-        self.bytes[self.len..end].copy_from_slice(bytes);
-        self.len = end;
+        copy_at(&mut self.bytes, self.len, bytes).unwrap();
+        self.len += bytes.len();
     }
 
     // Writes both sides of a tally behind what is written.
+    #[inline(always)]
     pub(crate) fn put_tally<M: StoredMeasure>(&mut self, tally: &Tally<M>)
         requires { length self.old + 2 * (M.each * M.count) ≤ image_size }
         ensures after { self.new ≡ self.old ++ packed_sides M.each (sides M.numbers tally.now) }
@@ -57,10 +61,11 @@ impl Written {
     }
 
     // All bytes.
-    pub(crate) fn whole(self) -> [u8; IMAGE_SIZE]
-        requires { length self ≡ image_size }
-        ensures { result ≡ self }
+    #[inline(always)]
+    pub(crate) fn whole(&self) -> &[u8; IMAGE_SIZE]
+        requires { length self.now ≡ image_size }
+        ensures { result.now ≡ self.now }
     {
-        self.bytes
+        &self.bytes
     }
 }

@@ -2,17 +2,18 @@ use Rattle.std.proofs.Common.{◌≡◌, [], ap, ◌∙◌}
 use Rattle.image.specs.Layout.{meaning, counters_record, money_record, pin_record, rows_record, last_record, key_record, image_fields}
 use Rattle.image.specs.Filling.{laid}
 use Rattle.image.specs.Fitting.{Fits}
+use Rattle.image.proofs.Parcels.{laid_is}
 use Rattle.image.proofs.Rereads.{read_written}
-use Rattle.image.proofs.Writes.{bytes_given}
-use Rattle.image.proofs.fields.Image.to_bytes.Goals as goal
+use Rattle.image.proofs.fields.Image.put_records.Goals as goal
 
-pub returns-clause-value : goal.returns-clause-value
-returns-clause-value c =
+pub returns-clause-after : goal.returns-clause-after
+returns-clause-after c =
     let i = meaning c.args.self.now in
-    let pin = c.put_pin.ensures.after ∙ ap (λ u. laid u (pin_record i)) (c.in_ok-put_money.ensures.after ∙ ap (λ u. laid u (money_record i)) (c.put_counters.ensures.after ∙ ap (λ u. laid u (counters_record i)) c.new-out.ensures)) in
+    let counters = c.put_counters.ensures.after ∙ ap (λ u. laid u (counters_record i)) c.requires in
+    let pin = c.put_pin.ensures.after ∙ ap (λ u. laid u (pin_record i)) (c.in_ok-put_money.ensures.after ∙ ap (λ u. laid u (money_record i)) counters) in
     let last = c.put_last.ensures.after ∙ ap (λ u. laid u (last_record i)) (c.put_rows.ensures.after ∙ ap (λ u. laid u (rows_record i)) pin) in
-    let all : c.whole.result ≡ laid [] (image_fields i) = c.whole.ensures ∙ c.put_key.ensures.after ∙ ap (λ u. laid u (key_record i)) last in
-    bytes_given i c.whole.result c.in_ok-put_money.ensures.value all
+    let all : c.put_key.new.out ≡ laid [] (image_fields i) = c.put_key.ensures.after ∙ ap (λ u. laid u (key_record i)) last in
+    all ∙ laid_is [] (image_fields i)
 
 pub returns-clause-back : goal.returns-clause-back
 returns-clause-back c =
