@@ -86,7 +86,7 @@ le_is : (s : Shape) (b : List ℕ) → le_of (shaped s b) ≡ shape_le s
 le_is s b = grind arith
 
 -- a command is read back
-read_back : (k : Kind) (f : Form) (b c : List ℕ) → published k ≡ Some f → body_fault f.body b ≡ None → c ≡ command_in f b → ReadBack k b c
+pub read_back : (k : Kind) (f : Form) (b c : List ℕ) → published k ≡ Some f → body_fault f.body b ≡ None → c ≡ command_in f b → ReadBack k b c
 read_back k f b c is h e =
     let fit = fitting k f is in
     let t : Writing = shaped f.shape b in
