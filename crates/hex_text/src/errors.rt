@@ -28,8 +28,8 @@ impl fmt::Display for HexError {
     fn fmt<W: fmt::Write>(&self, f: &mut fmt::Formatter<W>) -> fmt::Result {
         match *self {
             HexError::NoDigit(c) => write!(f, "the character {c} is no digit"),
-            HexError::HalfByte => f.pad("a byte has one digit"),
-            HexError::NoMemory => f.pad("no memory"),
+            HexError::HalfByte => f.write_str("a byte has one digit"),
+            HexError::NoMemory => f.write_str("no memory"),
         }
     }
 }

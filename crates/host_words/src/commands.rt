@@ -10,7 +10,7 @@ pub struct Hex<'a>(pub &'a [u8]);
 impl fmt::Display for Hex<'_> {
     fn fmt<W: fmt::Write>(&self, f: &mut fmt::Formatter<W>) -> fmt::Result {
         if self.0.is_empty() {
-            return f.pad("-");
+            return f.write_str("-");
         }
         for byte in self.0 {
             write!(f, "{byte:02X}")?;
@@ -45,7 +45,7 @@ impl fmt::Display for CommandWords<'_> {
         )?;
         match le {
             Some(n) => write!(f, "Le {n}"),
-            None => f.pad("no Le"),
+            None => f.write_str("no Le"),
         }
     }
 }
